@@ -1,0 +1,9 @@
+pub mod Orders
+pub mod Answers
+pub mod Scale
+pub mod Rules
+pub mod Held
+pub mod Bases
+pub mod Fresh
+pub mod Ramp
+pub mod Seal

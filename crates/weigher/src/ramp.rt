@@ -1,0 +1,94 @@
+// The ramp: a load that moves by a fixed step towards a target.
+ghost use mathlib.Core.Path.{_≡_};
+ghost use mathlib.Core.Bool.{true, false};
+ghost use Prim.Native.Nat.{_≤_};
+ghost use lib.IntN.{pos, natAbs};
+ghost use lib.Signed.{_≤ℤ_};
+ghost use Rattle.std.specs.Results.{Cases};
+ghost use Rattle.weigher.specs.Answers.{numberOf};
+ghost use Rattle.weigher.specs.Bases.{scaleOf};
+ghost use Rattle.weigher.specs.Fresh.{fresh};
+ghost use Rattle.weigher.specs.Ramp.{goodRamp, towards, RampMoves};
+use crate::answers::Declined;
+use crate::answers::Told;
+use crate::answers::View;
+use crate::base::Base;
+use crate::base::Reading;
+use crate::base::in_range;
+use crate::interface::Weigher;
+use crate::orders::Order;
+
+#[derive(Clone, Copy)]
+pub struct Ramp {
+    base: Base,
+    step: i32,
+    target: i32,
+    ghost step_positive: { pos 1 ≤ℤ step },
+    ghost step_in_range: { step ≤ℤ pos 1000 },
+    ghost target_in_range: { natAbs target ≤ 4000000 },
+}
+
+impl Ramp {
+    pub const CAPACITY: u32 = 15_000;
+
+    pub fn new(start: i32, step: i32, target: i32) -> Result<Ramp, Declined>
+        ensures { λ r. ⌜ Cases r (λ w. (goodRamp start step target ≡ true) × (w .step ≡ step) × (w .target ≡ target) × (scaleOf (w .base) ≡ fresh start 15000)) (λ e. (goodRamp start step target ≡ false) × (numberOf e ≡ 44)) ⌝ }
+    {
+        if !in_range(start) || !in_range(target) || step < 1 || step > 1000 {
+            return Err(Declined::BadRamp);
+        }
+        let base = Base::new(start, Self::CAPACITY);
+        Ok(Ramp { base, step, target })
+    }
+
+    // The load one step on: towards the target and not past it.
+    fn next_load(&self) -> i32
+        ensures value { λ r. ⌜ r ≡ towards (now (self .entry) .step) (now (self .entry) .target) (now (self .entry) .base .load) ⌝ }
+        ensures bound { λ r. ⌜ natAbs r ≤ 4000000 ⌝ }
+    {
+        let load = self.base.load();
+        if load < self.target {
+            (load + self.step).min(self.target)
+        } else {
+            (load - self.step).max(self.target)
+        }
+    }
+}
+
+pub impl Weigher for Ramp as RampWeigher {
+    ghost patience = { 50 };
+
+    ghost meaning = { λ w. scaleOf (w .base) };
+
+    ghost moves = { λ a b. (b .step ≡ a .step) × (b .target ≡ a .target) × RampMoves (a .step) (a .target) (scaleOf (a .base)) (scaleOf (b .base)) };
+
+    ghost keeps = { λ a b. (b .step ≡ a .step) × (b .target ≡ a .target) };
+
+    const PATIENCE: u8 = 50;
+
+    fn longest() -> u8 {
+        Self::PATIENCE
+    }
+
+    fn look(&self) -> View {
+        self.base.look()
+    }
+
+    fn begin(&mut self, order: Order) -> Result<(), Declined> {
+        self.base.begin(Self::PATIENCE, order)
+    }
+
+    fn tend(&mut self) -> Told {
+        let load = self.next_load();
+        let still = load == self.base.load();
+        self.base.tend(Reading {
+            load,
+            still,
+            fault: false,
+        })
+    }
+
+    fn drop(&mut self) -> Result<(), Declined> {
+        self.base.drop()
+    }
+}
