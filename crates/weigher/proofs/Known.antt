@@ -19,7 +19,7 @@ use lib.Signed.{leZ}
 
 -- what a tend answers, with other known orders
 abbrev pub answer : (Order → Bool) → Told × Scale → Told × Scale
-answer k r = (r .0 , withKnown k (r .1))
+answer k r = (r .0, withKnown k (r .1))
 
 cond-map : {A B : Type 0} (f : A → B) (b : Bool) (x y : A) → cond b (f x) (f y) ≡ f (cond b x y)
 cond-map f true x y = refl
@@ -65,7 +65,7 @@ worked-knows : (s : Scale) → worked s .1 .knows ≡ s .knows
 worked-knows s = ap (λ (r : Told × Scale). r .1 .knows) (worked-known (s .knows) s)
 
 -- and the tend of the weigher below is that of the sealed one
-pub worked-sealed : (m n : Scale) (t : Told) → (t , n) ≡ worked (sensed m n) → (t , sealed n) ≡ worked (sensed (sealed m) (sealed n))
+pub worked-sealed : (m n : Scale) (t : Told) → (t, n) ≡ worked (sensed m n) → (t, sealed n) ≡ worked (sensed (sealed m) (sealed n))
 worked-sealed m n t e =
     let known : n .knows ≡ m .knows = ap (λ (r : Told × Scale). r .1 .knows) e ∙ worked-knows (sensed m n) in
     let less : (Order → Bool) → Order → Bool = λ k o. not (isImmediate o) && k o in

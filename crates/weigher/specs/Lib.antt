@@ -7,3 +7,4 @@ pub mod Bases
 pub mod Fresh
 pub mod Ramp
 pub mod Seal
+pub mod Cell

@@ -5,12 +5,14 @@ use Prim.Native.Nat.{ℕ}
 use lib.Dec.{leb}
 use lib.IntN.{ℤ, pos, natAbs, _+ℤ_, _-ℤ_}
 use lib.Signed.{ltZ, leZ}
+use Rattle.std.specs.declared.option.Option.{Option}
+use Rattle.std.specs.declared.option.Option.the-variants.{Some, None}
 use Rattle.std.specs.Numbers.{minZ, maxZ}
 use Rattle.weigher.specs.Scale.{Scale}
 
--- start and target within ±4,000,000 and a step from 1 to 1,000; anything else is declined with 44
-abbrev pub goodRamp : ℤ → ℤ → ℤ → Bool
-goodRamp start step target = leb (natAbs start) 4000000 && (leb (natAbs target) 4000000 && (leZ (pos 1) step && leZ step (pos 1000)))
+-- start and target are within ±4,000,000 and the step is 1 to 1,000, else 44
+abbrev pub rampRefusal : ℤ → ℤ → ℤ → Option ℕ
+rampRefusal start step target = cond (leb (natAbs start) 4000000 && (leb (natAbs target) 4000000 && (leZ (pos 1) step && leZ step (pos 1000)))) None (Some 44)
 
 -- the load one tend later
 abbrev pub towards : ℤ → ℤ → ℤ → ℤ

@@ -64,7 +64,7 @@ ready o s = not (s .fault) && (s .still || not (needsStillness o))
 
 -- an order that has ended stands no more
 abbrev pub ended : Told × Scale → Told × Scale
-ended (told , s) = (told , withStanding None s)
+ended (told, s) = (told, withStanding None s)
 
 -- one tend of a standing order, which has n tends left after it
 abbrev pub attempted : Order → ℕ → Scale → Told × Scale

@@ -41,15 +41,15 @@ pub trait Weigher {
         ensures { λ r. ⌜ r ≡ viewOf (meaning (now (self .entry))) ⌝ };
 
     fn begin(&mut self, order: Order) -> Result<(), Declined>
-        ensures work { λ r. ⌜ (declineOf r , meaning (now (self .exit))) ≡ begun patience order (meaning (now (self .entry))) ⌝ }
+        ensures work { λ r. ⌜ (declineOf r, meaning (now (self .exit))) ≡ begun patience order (meaning (now (self .entry))) ⌝ }
         ensures sensor { λ _. ⌜ keeps (now (self .entry)) (now (self .exit)) ⌝ };
 
     // The sensor moves first; what it then reads is what the order is worked on with.
     fn tend(&mut self) -> Told
-        ensures work { λ r. ⌜ (r , meaning (now (self .exit))) ≡ worked (sensed (meaning (now (self .entry))) (meaning (now (self .exit)))) ⌝ }
+        ensures work { λ r. ⌜ (r, meaning (now (self .exit))) ≡ worked (sensed (meaning (now (self .entry))) (meaning (now (self .exit)))) ⌝ }
         ensures sensor { λ _. ⌜ moves (now (self .entry)) (now (self .exit)) ⌝ };
 
     fn drop(&mut self) -> Result<(), Declined>
-        ensures work { λ r. ⌜ (declineOf r , meaning (now (self .exit))) ≡ dropped (meaning (now (self .entry))) ⌝ }
+        ensures work { λ r. ⌜ (declineOf r, meaning (now (self .exit))) ≡ dropped (meaning (now (self .entry))) ⌝ }
         ensures sensor { λ _. ⌜ keeps (now (self .entry)) (now (self .exit)) ⌝ };
 }

@@ -1,6 +1,7 @@
 // The weigher layer: the orders a scale can be given, the interface that every weigher meets, and the kinds behind it.
 mod answers;
 mod base;
+mod cell;
 mod interface;
 mod orders;
 mod ramp;
@@ -9,6 +10,7 @@ mod sealed;
 pub use answers::Declined;
 pub use answers::Told;
 pub use answers::View;
+pub use cell::Cell;
 pub use interface::Weigher;
 pub use orders::Order;
 pub use orders::Standing;

@@ -1,14 +1,13 @@
 // The ramp: a load that moves by a fixed step towards a target.
 ghost use mathlib.Core.Path.{_≡_};
-ghost use mathlib.Core.Bool.{true, false};
 ghost use Prim.Native.Nat.{_≤_};
 ghost use lib.IntN.{pos, natAbs};
 ghost use lib.Signed.{_≤ℤ_};
-ghost use Rattle.std.specs.Results.{Cases};
-ghost use Rattle.weigher.specs.Answers.{numberOf};
+ghost use Rattle.std.specs.Vec.{made};
+ghost use Rattle.weigher.specs.Answers.{declineOf};
 ghost use Rattle.weigher.specs.Bases.{scaleOf};
 ghost use Rattle.weigher.specs.Fresh.{fresh};
-ghost use Rattle.weigher.specs.Ramp.{goodRamp, towards, RampMoves};
+ghost use Rattle.weigher.specs.Ramp.{rampRefusal, towards, RampMoves};
 use crate::answers::Declined;
 use crate::answers::Told;
 use crate::answers::View;
@@ -32,7 +31,8 @@ impl Ramp {
     pub const CAPACITY: u32 = 15_000;
 
     pub fn new(start: i32, step: i32, target: i32) -> Result<Ramp, Declined>
-        ensures { λ r. ⌜ Cases r (λ w. (goodRamp start step target ≡ true) × (w .step ≡ step) × (w .target ≡ target) × (scaleOf (w .base) ≡ fresh start 15000)) (λ e. (goodRamp start step target ≡ false) × (numberOf e ≡ 44)) ⌝ }
+        ensures declines { λ r. ⌜ declineOf r ≡ rampRefusal start step target ⌝ }
+        ensures made { λ r. ⌜ made r (λ w. (w .step ≡ step) × (w .target ≡ target) × (scaleOf (w .base) ≡ fresh start 15000)) ⌝ }
     {
         if !in_range(start) || !in_range(target) || step < 1 || step > 1000 {
             return Err(Declined::BadRamp);

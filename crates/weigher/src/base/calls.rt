@@ -64,7 +64,7 @@ impl Base {
 
     pub(crate) fn begin(&mut self, patience: u8, order: Order) -> Result<(), Declined>
         requires { ⌜ 1 ≤ patience ⌝ }
-        ensures { λ r. ⌜ (declineOf r , scaleOf (now (self .exit))) ≡ begun patience order (scaleOf (now (self .entry))) ⌝ }
+        ensures { λ r. ⌜ (declineOf r, scaleOf (now (self .exit))) ≡ begun patience order (scaleOf (now (self .entry))) ⌝ }
     {
         if self.standing.is_some() {
             return Err(Declined::OrderStands);
@@ -80,7 +80,7 @@ impl Base {
     }
 
     pub(crate) fn drop(&mut self) -> Result<(), Declined>
-        ensures { λ r. ⌜ (declineOf r , scaleOf (now (self .exit))) ≡ dropped (scaleOf (now (self .entry))) ⌝ }
+        ensures { λ r. ⌜ (declineOf r, scaleOf (now (self .exit))) ≡ dropped (scaleOf (now (self .entry))) ⌝ }
     {
         if self.standing.is_none() {
             return Err(Declined::NoOrderStands);
@@ -91,7 +91,7 @@ impl Base {
 
     // A tend in which the sensor read this.
     pub(crate) fn tend(&mut self, reading: Reading) -> Told
-        ensures work { λ r. ⌜ (r , scaleOf (now (self .exit))) ≡ worked (sensed (scaleOf (now (self .entry))) (scaleOf (now (self .exit)))) ⌝ }
+        ensures work { λ r. ⌜ (r, scaleOf (now (self .exit))) ≡ worked (sensed (scaleOf (now (self .entry))) (scaleOf (now (self .exit)))) ⌝ }
         ensures load { λ _. ⌜ now (self .exit) .load ≡ reading .load ⌝ }
         ensures still { λ _. ⌜ now (self .exit) .still ≡ reading .still ⌝ }
         ensures fault { λ _. ⌜ now (self .exit) .fault ≡ reading .fault ⌝ }
@@ -120,7 +120,7 @@ impl Base {
 
     fn carry_out(&mut self, order: Order) -> Told
         requires { ⌜ presetFits order (now self .capacity) ≡ true ⌝ }
-        ensures work { λ r. ⌜ (r , scaleOf (now (self .exit))) ≡ carried order (scaleOf (now (self .entry))) ⌝ }
+        ensures work { λ r. ⌜ (r, scaleOf (now (self .exit))) ≡ carried order (scaleOf (now (self .entry))) ⌝ }
         ensures sensor { λ _. ⌜ SameReading (scaleOf (now (self .entry))) (scaleOf (now (self .exit))) ⌝ }
     {
         match order {
@@ -140,7 +140,7 @@ impl Base {
 
     // Not possible below a gross weight of 0.
     fn take_tare(&mut self) -> Told
-        ensures work { λ r. ⌜ (r , scaleOf (now (self .exit))) ≡ tared (scaleOf (now (self .entry))) ⌝ }
+        ensures work { λ r. ⌜ (r, scaleOf (now (self .exit))) ≡ tared (scaleOf (now (self .entry))) ⌝ }
         ensures sensor { λ _. ⌜ SameReading (scaleOf (now (self .entry))) (scaleOf (now (self .exit))) ⌝ }
     {
         let gross = self.load - self.zero;
@@ -153,7 +153,7 @@ impl Base {
 
     // Not possible beyond a fiftieth of the capacity.
     fn take_zero(&mut self) -> Told
-        ensures work { λ r. ⌜ (r , scaleOf (now (self .exit))) ≡ zeroed (scaleOf (now (self .entry))) ⌝ }
+        ensures work { λ r. ⌜ (r, scaleOf (now (self .exit))) ≡ zeroed (scaleOf (now (self .entry))) ⌝ }
         ensures sensor { λ _. ⌜ SameReading (scaleOf (now (self .entry))) (scaleOf (now (self .exit))) ⌝ }
     {
         if self.load.unsigned_abs() * 50 > self.capacity {
