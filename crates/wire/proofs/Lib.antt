@@ -1,0 +1,5 @@
+pub mod Arrangements
+pub mod Signs
+pub mod Steps
+pub mod Turns
+pub mod Wholes
