@@ -6,5 +6,6 @@ pub mod Held
 pub mod Bases
 pub mod Fresh
 pub mod Ramp
+pub mod Ramps
 pub mod Seal
 pub mod Cell

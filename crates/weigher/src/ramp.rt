@@ -7,15 +7,14 @@ ghost use Rattle.std.specs.Vec.{made};
 ghost use Rattle.weigher.specs.Answers.{declineOf};
 ghost use Rattle.weigher.specs.Bases.{scaleOf};
 ghost use Rattle.weigher.specs.Fresh.{fresh};
-ghost use Rattle.weigher.specs.Ramp.{rampRefusal, towards, RampMoves};
+ghost use Rattle.weigher.specs.Ramp.{rampRefusal, towards};
 use crate::answers::Declined;
-use crate::answers::Told;
-use crate::answers::View;
 use crate::base::Base;
-use crate::base::Reading;
 use crate::base::in_range;
-use crate::interface::Weigher;
-use crate::orders::Order;
+
+mod weighing;
+
+pub use weighing::RampWeigher;
 
 #[derive(Clone, Copy)]
 pub struct Ramp {
@@ -52,43 +51,5 @@ impl Ramp {
         } else {
             (load - self.step).max(self.target)
         }
-    }
-}
-
-pub impl Weigher for Ramp as RampWeigher {
-    ghost patience = { 50 };
-
-    ghost meaning = { λ w. scaleOf (w .base) };
-
-    ghost moves = { λ a b. (b .step ≡ a .step) × (b .target ≡ a .target) × RampMoves (a .step) (a .target) (scaleOf (a .base)) (scaleOf (b .base)) };
-
-    ghost keeps = { λ a b. (b .step ≡ a .step) × (b .target ≡ a .target) };
-
-    const PATIENCE: u8 = 50;
-
-    fn longest() -> u8 {
-        Self::PATIENCE
-    }
-
-    fn look(&self) -> View {
-        self.base.look()
-    }
-
-    fn begin(&mut self, order: Order) -> Result<(), Declined> {
-        self.base.begin(Self::PATIENCE, order)
-    }
-
-    fn tend(&mut self) -> Told {
-        let load = self.next_load();
-        let still = load == self.base.load();
-        self.base.tend(Reading {
-            load,
-            still,
-            fault: false,
-        })
-    }
-
-    fn drop(&mut self) -> Result<(), Declined> {
-        self.base.drop()
     }
 }
