@@ -19,3 +19,6 @@ pub use ramp::Ramp;
 pub use ramp::RampWeigher;
 pub use sealed::Sealed;
 pub use sealed::SealedWeigher;
+
+#[cfg(test)]
+mod tests;
