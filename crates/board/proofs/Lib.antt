@@ -6,3 +6,4 @@ pub mod Scan
 pub mod Rows
 pub mod Entries
 pub mod Promises
+pub mod Below

@@ -17,3 +17,4 @@ pub mod Account
 pub mod Book
 pub mod Progress
 pub mod Promise
+pub mod Examples

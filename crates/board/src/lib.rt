@@ -3,6 +3,7 @@ mod block;
 mod board;
 mod command;
 mod declined;
+mod examples;
 mod inner;
 mod journal;
 mod list;
@@ -12,9 +13,12 @@ mod report;
 mod runs;
 mod setting;
 mod status;
+#[cfg(test)]
+mod tests;
 
 pub use board::Board;
 pub use declined::Declined;
+pub use examples::worked_examples;
 pub use journal::Answer;
 pub use journal::Call;
 pub use journal::Entry;
