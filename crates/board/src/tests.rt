@@ -245,7 +245,12 @@ fn weight_test_at_fault(rt: LibcRuntime) -> Result<(), Fail> {
 }
 
 const REFUSED: [Turn; 6] = [
-    (0, 0x0990, (Some(0x0990), Some(0x8001), Some(0x0990)), 0x8001),
+    (
+        0,
+        0x0990,
+        (Some(0x0990), Some(0x8001), Some(0x0990)),
+        0x8001,
+    ),
     (0, 4, (Some(4), Some(0x8004), Some(4)), 0x8004),
     (0, 2006, (Some(2006), Some(0x8001), Some(2006)), 0x8001),
     (HALF, 201, (Some(201), Some(0x8008), Some(201)), 0x8008),
