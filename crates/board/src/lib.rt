@@ -1,4 +1,6 @@
 // The adapter board: commands, the scan, acyclic reads, and runs of calls with their journal.
+#![tactic(auto)]
+
 mod block;
 mod board;
 mod command;

@@ -1,4 +1,6 @@
 // Drives a board from a recorded file: standard input to the listing, or with --explain to the listing explained in plain words.
+#![tactic(auto)]
+
 use drivefile::listing;
 use explain::explanation;
 use std::io::Read;

@@ -1,4 +1,6 @@
 // Drive files: the reader of their records, the run that they make, and the listing of what a board answers to them.
+#![tactic(auto)]
+
 mod calls;
 mod fault;
 mod head;

@@ -1,4 +1,6 @@
 // A reader's view of a drive file: each line of its listing, and what happened in plain words.
+#![tactic(auto)]
+
 mod effect;
 mod explained;
 mod names;

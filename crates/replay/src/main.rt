@@ -1,4 +1,6 @@
 // Recorded samples of a load cell through a cell: standard input to a listing of its tends.
+#![tactic(auto)]
+
 mod failure;
 mod input;
 mod journal;

@@ -1,4 +1,6 @@
 // The weigher layer: the orders a scale can be given, the interface that every weigher meets, and the kinds behind it.
+#![tactic(auto)]
+
 mod answers;
 mod base;
 mod cell;

@@ -1,4 +1,6 @@
 // Between whole grams and the bytes of an image: rounding, floats, byte and word orders, and the measuring block.
+#![tactic(auto)]
+
 mod block;
 mod float;
 mod increment;

@@ -12,7 +12,7 @@ pub returns : goal.returns
 returns c =
     let xs = c.args.window.now in
     let all : take c.loop-sample.sample-index xs ≡ xs = take_all _ _ c.loop-sample-test.false in
-    let e : c.is-close.result ≡ steady c.args.tolerance xs = grind (arith, to_z-of_z) in
+    let e : c.is_close.result ≡ steady c.args.tolerance xs = grind (arith, to_z-of_z) in
     record {
       value = e;
       says = λ yes. steady_says xs _ (sym e ∙ yes);

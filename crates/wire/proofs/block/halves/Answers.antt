@@ -7,8 +7,8 @@ use Rattle.wire.proofs.block.halves.Goals as goal
 low : (n : ℕ) → bit_and n 65535 ≡ n % 65536
 low n = and_mask n 16
 
-pub returns-then-swaps-words : goal.returns-then-swaps-words
-returns-then-swaps-words c = let m = low c.f32-to-bits-with-nan-bits.result in search rules
+pub returns-then-swaps_words : goal.returns-then-swaps_words
+returns-then-swaps_words c = let m = low c.f32-to-bits-with-nan-bits.result in search rules
 
-pub returns-else-swaps-words : goal.returns-else-swaps-words
-returns-else-swaps-words c = let m = low c.f32-to-bits-with-nan-bits.result in search rules
+pub returns-else-swaps_words : goal.returns-else-swaps_words
+returns-else-swaps_words c = let m = low c.f32-to-bits-with-nan-bits.result in search rules

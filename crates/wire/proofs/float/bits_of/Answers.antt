@@ -9,6 +9,6 @@ use Rattle.wire.proofs.float.bits_of.Goals as goal
 pub returns : goal.returns
 returns c =
     let n = c.args.number in
-    let e : c.f32-to-bits-with-nan.result ≡ bits_of n =
-    c.f32-to-bits-with-nan.ensures ∙ ap (to_bits binary32) (simp (to_z-of_z _ _ c.ranges.number) at c.float-of.ensures) in
+    let e : c.f32_to_bits_with_nan.result ≡ bits_of n =
+    c.f32_to_bits_with_nan.ensures ∙ ap (to_bits binary32) (simp (to_z-of_z _ _ c.ranges.number) at c.float_of.ensures) in
     record { value = e; back = λ h. ap whole_of e ∙ sent_and_read n h }

@@ -14,8 +14,8 @@ returns-then-bits-gt-INFINITY c =
     let none = nan_not_whole c.args.bits (nan_bits_above binary32 c.args.bits ∙ lt-ltb _ _ c.if-bits-gt-INFINITY.true) in
     record { value = sym none; exact = not_whole c.args.bits none }
 
-pub float-from-bits-value : goal.float-from-bits-value
-float-from-bits-value c =
+pub float_from_bits-value : goal.float_from_bits-value
+float_from_bits-value c =
     rw (nan_bits_above binary32 c.args.bits ∙ le-ltb _ _ c.if-bits-gt-INFINITY.false) tt
 
 holds : (b : Bool) → b ≡ true → T b
@@ -28,8 +28,8 @@ fails b e t = subst (λ (x : Bool). T x) e t
 same : (k f : ℤ) (g : Float) → SFits w64 f → f ≡ k → g ≡ of_int binary32 (to_z w64 (of_z w64 f)) → g ≡ of_int binary32 k
 same k f g fits e h = h ∙ ap (of_int binary32) (to_z-of_z w64 f fits ∙ e)
 
-pub returns-then-float-of-value : goal.returns-then-float-of-value
-returns-then-float-of-value c =
+pub returns-then-float_of-value : goal.returns-then-float_of-value
+returns-then-float_of-value c =
     let b = c.args.bits in
     let k = to_z w32 (of_z w32 c.saturating-f32-to-i32-number.result) in
     let g = same k c.from.result c.float-of.result (record { sfits = c.from.type-inv }) c.from.ensures c.float-of.ensures in
@@ -39,8 +39,8 @@ returns-then-float-of-value c =
     ) in
     record { value = sym (whole_from b k w); exact = w }
 
-pub returns-else-unsigned-abs-le-LARGEST : goal.returns-else-unsigned-abs-le-LARGEST
-returns-else-unsigned-abs-le-LARGEST c =
+pub returns-else-unsigned_abs-le-LARGEST : goal.returns-else-unsigned_abs-le-LARGEST
+returns-else-unsigned_abs-le-LARGEST c =
     let b = c.args.bits in
     let n = c.saturating-f32-to-i32-number.result in
     let k = to_z w32 (of_z w32 n) in

@@ -21,11 +21,11 @@ pub returns-then-weight-lt0 : goal.returns-then-weight-lt0
 returns-then-weight-lt0 c =
     let n = c.args.weight in
     let d = c.args.increment.grams in
-    let x = c.nearest-multiple-size.result in
+    let x = c.nearest_multiple-size.result in
     let t = simp (to_z-of_z _ _ c.ranges.weight) at c.if-weight-lt0.true in
-    let s = simp (to_z-of_z _ _ c.ranges.weight) at c.unsigned-abs.ensures.value in
+    let s = simp (to_z-of_z _ _ c.ranges.weight) at c.unsigned_abs.ensures.value in
     let e = minus x (omega (arith, (listed_range d c.args.increment.known).1))
-    ∙ ap (λ (k : ℕ). neg_ℤ (pos k)) (size_is d _ (nat_abs n) x c.nearest-multiple-size.ensures.value s)
+    ∙ ap (λ (k : ℕ). neg_ℤ (pos k)) (size_is d _ (nat_abs n) x c.nearest_multiple-size.ensures.value s)
     ∙ sym (rounded_below d n t) in
     record { value = e; nearest = is_nearest d c.args.increment.known n _ e }
 
@@ -33,10 +33,10 @@ pub returns-else-weight-lt0 : goal.returns-else-weight-lt0
 returns-else-weight-lt0 c =
     let n = c.args.weight in
     let d = c.args.increment.grams in
-    let x = c.nearest-multiple-size.result in
+    let x = c.nearest_multiple-size.result in
     let t = simp (to_z-of_z _ _ c.ranges.weight) at c.if-weight-lt0.false in
-    let s = simp (to_z-of_z _ _ c.ranges.weight) at c.unsigned-abs.ensures.value in
+    let s = simp (to_z-of_z _ _ c.ranges.weight) at c.unsigned_abs.ensures.value in
     let e = to_z_pos w64 x (omega (arith, (listed_range d c.args.increment.known).1))
-    ∙ ap pos (size_is d _ (nat_abs n) x c.nearest-multiple-size.ensures.value s)
+    ∙ ap pos (size_is d _ (nat_abs n) x c.nearest_multiple-size.ensures.value s)
     ∙ sym (rounded_above d n t) in
     record { value = e; nearest = is_nearest d c.args.increment.known n _ e }

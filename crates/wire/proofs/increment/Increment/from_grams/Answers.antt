@@ -3,9 +3,9 @@ use Rattle.std.proofs.Common.{rules}
 use Rattle.wire.specs.Increments.{listed}
 use Rattle.wire.proofs.increment.Increment.from_grams.Goals as goal
 
-pub invariant-of-result : goal.invariant-of-result
+pub invariant_of-result : goal.invariant_of-result
 unfolding listed
-invariant-of-result c = search rules
+invariant_of-result c = search rules
 
 pub returns-else-matches : goal.returns-else-matches
 unfolding listed
