@@ -5,7 +5,7 @@ use Rattle.board.proofs.examples.worked_examples.Goals as goal
 
 pub returns : goal.returns
 returns c = record {
-  on_the_wire = c.worked-examples.ensures;
+  on_the_wire = c.worked_examples.ensures;
   zero_at_300 = record { when_still = λ _ _ _ _. refl; now_moving = λ _ _ _ _. refl };
   zero_at_301 = record { when_still = λ _ _ _ _. refl; now_moving = λ _ _ _ _. refl };
   tare_when_still_below = still_below;

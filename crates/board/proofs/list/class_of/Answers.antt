@@ -3,4 +3,4 @@ use Rattle.board.proofs.list.class_of.Goals as goal
 
 pub returns : goal.returns
 unfolding class_of
-returns c = c.look-up.ensures
+returns c = c.look_up.ensures

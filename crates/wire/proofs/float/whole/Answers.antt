@@ -7,7 +7,7 @@ use Rattle.std.proofs.lemmas.Bool.{lt-ltb, le-ltb}
 use Rattle.wire.specs.Floats.{Whole}
 use Rattle.wire.proofs.Wholes.{nan_not_whole, not_whole, whole_from, none_but_cut}
 use Rattle.wire.proofs.float.whole.Goals as goal
-use Rattle.wire.proofs.float.whole.Goals.{else-unsigned-abs-le-LARGEST-via-then-unsigned-abs-le-LARGEST+else-float-of-value as tested, else-unsigned-abs-le-LARGEST-via-else-unsigned-abs-le-LARGEST as large}
+use Rattle.wire.proofs.float.whole.Goals.{else-unsigned_abs-le-LARGEST-via-then-unsigned_abs-le-LARGEST+else-float_of-value as tested, else-unsigned_abs-le-LARGEST-via-else-unsigned_abs-le-LARGEST as large}
 
 pub returns-then-bits-gt-INFINITY : goal.returns-then-bits-gt-INFINITY
 returns-then-bits-gt-INFINITY c =
@@ -31,24 +31,24 @@ same k f g fits e h = h ∙ ap (of_int binary32) (to_z-of_z w64 f fits ∙ e)
 pub returns-then-float_of-value : goal.returns-then-float_of-value
 returns-then-float_of-value c =
     let b = c.args.bits in
-    let k = to_z w32 (of_z w32 c.saturating-f32-to-i32-number.result) in
-    let g = same k c.from.result c.float-of.result (record { sfits = c.from.type-inv }) c.from.ensures c.float-of.ensures in
+    let k = to_z w32 (of_z w32 c.saturating_f32_to_i32-number.result) in
+    let g = same k c.from.result c.float_of.result (record { sfits = c.from.type_inv }) c.from.ensures c.float_of.ensures in
     let w : Whole b k = (
-      omega (arith, c.unsigned-abs.ensures.value),
-      subst (λ (x : Float). T (eq x (of_bits binary32 b))) g (holds _ c.if-float-of-value.true),
+      omega (arith, c.unsigned_abs.ensures.value),
+      subst (λ (x : Float). T (eq x (of_bits binary32 b))) g (holds _ c.if-float_of-value.true),
     ) in
     record { value = sym (whole_from b k w); exact = w }
 
 pub returns-else-unsigned_abs-le-LARGEST : goal.returns-else-unsigned_abs-le-LARGEST
 returns-else-unsigned_abs-le-LARGEST c =
     let b = c.args.bits in
-    let n = c.saturating-f32-to-i32-number.result in
+    let n = c.saturating_f32_to_i32-number.result in
     let k = to_z w32 (of_z w32 n) in
-    let not-k : Whole b k → ⊥ = λ y. elim c.else-unsigned-abs-le-LARGEST.branch [
+    let not-k : Whole b k → ⊥ = λ y. elim c.else-unsigned_abs-le-LARGEST.branch [
       | tested w ↦
-          let g = same k w.from.result w.float-of.result (record { sfits = w.from.ok }) w.from.ensures w.float-of.ensures in
-          fails _ w.if-float-of-value.left (subst (λ (x : Float). T (eq x (of_bits binary32 b))) (sym g) y.1)
-      | large w ↦ omega (arith, y.0, c.unsigned-abs.ensures.value, w.if-unsigned-abs-le-LARGEST.left)
+          let g = same k w.from.result w.float_of.result (record { sfits = w.from.type_inv }) w.from.ensures w.float_of.ensures in
+          fails _ w.if-float_of-value.false (subst (λ (x : Float). T (eq x (of_bits binary32 b))) (sym g) y.1)
+      | large w ↦ omega (arith, y.0, c.unsigned_abs.ensures.value, w.if-unsigned_abs-le-LARGEST.false)
     ] in
-    let none = none_but_cut b k (to_z-of_z w32 n (record { sfits = c.saturating-f32-to-i32-number.type-inv }) ∙ c.saturating-f32-to-i32-number.ensures) not-k in
+    let none = none_but_cut b k (to_z-of_z w32 n (record { sfits = c.saturating_f32_to_i32-number.type_inv }) ∙ c.saturating_f32_to_i32-number.ensures) not-k in
     record { value = sym none; exact = not_whole b none }
