@@ -20,6 +20,7 @@ use Rattle.drivefile.specs.declared.outcome.Tail.{Tail}
 use Rattle.drivefile.specs.Heads.{start_in, step_in, target_in}
 use Rattle.drivefile.specs.Lines.{entry_lines}
 use Rattle.drivefile.specs.Listings.{head_fault, Headed, DrivenRun, Tells, TextBy, listing_text, Listed}
+use Rattle.drivefile.proofs.Texts.{text}
 use Rattle.drivefile.proofs.Asked.{Asked, asked, reads_alike}
 use Rattle.drivefile.proofs.Answering.{Ramped, ramped, lines_of, lines_are}
 
@@ -77,4 +78,4 @@ only_by file a b (Some f) p q = p ∙ sym q
 only_by file a b None p q = only_told file a b p q
 
 pub only : (file a b : List ℕ) → Listed file a → Listed file b → a ≡ b
-only file a b = only_by file a b (head_fault file)
+only file a b p q = only_by file a b (head_fault file) (text file a p) (text file b q)

@@ -81,7 +81,7 @@ pub record DrivenRun (file : List ℕ) (s : Settings) (calls : List Call) (start
 -- the failure is that fault, which is told even where there is no memory; or there is none, and memory was wanting
 abbrev pub FailsBy : Option (ℕ × ℕ) → Failure → Type 0
 FailsBy at (Faulty f) = at ≡ Some (number_of f.flaw, f.place)
-FailsBy at Memory = at ≡ None
+FailsBy at (Memory e) = at ≡ None
 
 -- a way to tell of a drive file: of a fault before its first call by number and place, and of a run
 pub record Text : Type 0 where

@@ -8,7 +8,7 @@ use crate::calls::read_calls;
 use crate::head::head_of;
 use crate::lines::{put_end, put_entries, put_fault};
 use crate::outcome::{Drive, Failure, Recorded, Tail};
-use board::{Journal, run};
+use board::run;
 use std::alloc::{AllocError, Global};
 
 // Where the third record begins.
@@ -20,12 +20,12 @@ pub fn drive(heap: Global, file: &[u8]) -> Result<Drive<'_>, Failure>
 {
     let head = head_of(file)?;
     let Recorded { calls, tail } = read_calls(heap, file, THIRD)?;
-    let Journal { start, entries } = run(heap, head.ramp, head.settings, calls.as_slice())?;
+    let journal = run(heap, head.ramp, head.settings, calls.as_slice())?;
     Ok(Drive {
         settings: head.settings,
         calls,
-        start,
-        journal: entries,
+        start: journal.start,
+        journal: journal.entries,
         tail,
     })
 }
@@ -65,6 +65,6 @@ pub fn listing(heap: Global, file: &[u8]) -> Result<Vec<u8>, AllocError>
             put_fault(heap, &mut out, fault.flaw.number(), fault.place)?;
             Ok(out)
         }
-        Err(Failure::Memory) => Err(AllocError),
+        Err(Failure::Memory(e)) => Err(e),
     }
 }

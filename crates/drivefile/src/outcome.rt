@@ -36,7 +36,7 @@ pub struct Drive<'a> {
 pub enum Failure {
     // One of the first two records has a fault.
     Faulty(Fault),
-    Memory,
+    Memory(AllocError),
 }
 
 impl From<Fault> for Failure {
@@ -48,9 +48,9 @@ impl From<Fault> for Failure {
 }
 
 impl From<AllocError> for Failure {
-    ghost from_gives = { λ _ r. r ≡ Memory };
+    ghost from_gives = { λ e r. r ≡ Memory e };
 
-    fn from(_e: AllocError) -> Failure {
-        Failure::Memory
+    fn from(e: AllocError) -> Failure {
+        Failure::Memory(e)
     }
 }

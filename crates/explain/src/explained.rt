@@ -90,6 +90,6 @@ pub fn explanation(heap: Global, file: &[u8]) -> Result<Vec<u8>, AllocError>
             let text = fault_text(heap, fault)?;
             Ok(text)
         }
-        Err(Failure::Memory) => Err(AllocError),
+        Err(Failure::Memory(e)) => Err(e),
     }
 }

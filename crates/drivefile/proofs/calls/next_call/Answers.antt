@@ -7,4 +7,4 @@ pub returns-in-None : goal.returns-in-None
 returns-in-None c =
     let r = c.in-Ok.placed.record in
     let none = c.in-None.ensures in
-    ends c.args.file.now c.args.place (kind_of r) (body_of r) c.end-at.result c.in-Ok.ensures.found none.0 none.1 c.end-at.ensures
+    ends c.args.file.now c.args.place (kind_of r) (body_of r) c.end_at.result c.in-Ok.ensures.found none.0 none.1 c.end_at.ensures

@@ -8,4 +8,4 @@ loop-tail-init c = reads_none c.args.file.now c.args.from _ c.new-calls.ensures.
 pub loop-tail-preserved : goal.loop-tail-preserved
 loop-tail-preserved c =
     let e = c.in-Ok.ensures in
-    reads_more c.args.file.now c.args.from (vec_items c.loop-tail.calls) _ c.loop-tail.place c.in-Ok.after c.in-Ok.call e.0 e.1 c.loop-tail.invariant e.2 e.3 e.4 c.in-ok-push.ensures.items
+    reads_more c.args.file.now c.args.from (vec_items c.loop-tail.calls) _ c.loop-tail.place c.in-Ok.after c.in-Ok.call e.0 e.1 c.loop-tail.invariant e.2 e.3 e.4 c.in_ok-push-in-Ok.ensures.items

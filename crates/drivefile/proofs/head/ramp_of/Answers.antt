@@ -8,7 +8,7 @@ use Rattle.drivefile.proofs.head.ramp_of.Goals as goal
 pub returns-in-Err : goal.returns-in-Err
 returns-in-Err c =
     ramp_refused _
-    (to_z-of_z w32 c.signed-of-start.result (record { sfits = c.signed-of-start.type-inv }) ∙ c.signed-of-start.ensures ∙ ap signed c.number-at.ensures)
-    (to_z-of_z w32 c.signed-of-step.result (record { sfits = c.signed-of-step.type-inv }) ∙ c.signed-of-step.ensures ∙ ap signed c.number-at-2.ensures)
-    (to_z-of_z w32 c.signed-of-target.result (record { sfits = c.signed-of-target.type-inv }) ∙ c.signed-of-target.ensures ∙ ap signed c.number-at-3.ensures)
+    (to_z-of_z w32 c.signed_of-start.result (record { sfits = c.signed_of-start.type_inv }) ∙ c.signed_of-start.ensures ∙ ap signed c.number_at.ensures)
+    (to_z-of_z w32 c.signed_of-step.result (record { sfits = c.signed_of-step.type_inv }) ∙ c.signed_of-step.ensures ∙ ap signed c.number_at-2.ensures)
+    (to_z-of_z w32 c.signed_of-target.result (record { sfits = c.signed_of-target.type_inv }) ∙ c.signed_of-target.ensures ∙ ap signed c.number_at-3.ensures)
     c.in-Err.ensures.declines

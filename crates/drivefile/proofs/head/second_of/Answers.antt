@@ -10,8 +10,8 @@ use Rattle.drivefile.proofs.head.second_of.Goals as goal
 
 pub returns-in-Ok : goal.returns-in-Ok
 returns-in-Ok c =
-    let r = c.in-ok-placed.placed.record in
-    let found = c.in-ok-placed.ensures.found in
+    let r = c.in_ok-placed.placed.record in
+    let found = c.in_ok-placed.ensures.found in
     let given = c.body.ensures in
     let part = given ∙ (second_body c.args.file.now (kind_of r) (body_of r) found).1 in
     let e = c.in-Ok.ensures in (

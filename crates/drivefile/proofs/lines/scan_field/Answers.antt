@@ -9,6 +9,6 @@ eight r rest = get_or r 0 0 ∷ get_or r 1 0 ∷ get_or r 2 0 ∷ get_or r 3 0 �
 
 pub returns : goal.returns
 returns c =
-    ap (λ (r : List ℕ). codes "scan " ++ eight r (eight c.hex-four-2.result [])) c.hex-four.ensures
-    ∙ ap (λ (r : List ℕ). codes "scan " ++ (hex_bytes (get_or c.args.read 0 0 ∷ get_or c.args.read 1 0 ∷ get_or c.args.read 2 0 ∷ get_or c.args.read 3 0 ∷ []) ++ eight r [])) c.hex-four-2.ensures
+    ap (λ (r : List ℕ). codes "scan " ++ eight r (eight c.hex_four-2.result [])) c.hex_four.ensures
+    ∙ ap (λ (r : List ℕ). codes "scan " ++ (hex_bytes (get_or c.args.read 0 0 ∷ get_or c.args.read 1 0 ∷ get_or c.args.read 2 0 ∷ get_or c.args.read 3 0 ∷ []) ++ eight r [])) c.hex_four-2.ensures
     ∙ ap (λ (s : List ℕ). codes "scan " ++ hex_bytes s) (sym (eight_bytes c.args.read (search rules)))

@@ -7,10 +7,10 @@ use Rattle.drivefile.proofs.listings.drive.Goals as goal
 
 pub returns : goal.returns
 returns c =
-    let head = c.in-ok-head.head in
-    let h = c.in-ok-head.ensures in
-    let r = c.in-ok-calls.ensures in
-    let j = c.in-ok-start in (
+    let head = c.in_ok-head.head in
+    let h = c.in_ok-head.ensures in
+    let r = c.in_ok-calls.ensures in
+    let j = c.in_ok-journal.journal in (
       h.0,
       record {
         ramp = head.ramp;
@@ -18,6 +18,6 @@ returns c =
         place = r.0;
         reads = r.1;
         ends = r.2;
-        promise = subst (λ (calls : List Call). Promise ramp_scale RampMoved RampKept 50 head.settings head.ramp calls j.start (vec_items j.journal)) c.as-slice.ensures.value j.ensures;
+        promise = subst (λ (calls : List Call). Promise ramp_scale RampMoved RampKept 50 head.settings head.ramp calls j.start (vec_items j.entries)) c.as_slice.ensures.value c.in_ok-journal.ensures;
       },
     )
