@@ -8,7 +8,7 @@ loop-i-init c = refl
 pub loop-i-preserved : goal.loop-i-preserved
 loop-i-preserved c =
     let l = c.loop-i in
-    lines_more c.args.order l.report c.args.calls.now c.args.journal.now l.i _ _ c.selected-by-report.result (vec_items l.out) (vec_items c.put-entry.new.out) (omega arith) (omega arith) c.selected-by-report.ensures c.in-ok-put-entry.ensures ∙ l.invariant
+    lines_more c.args.order l.report c.args.calls.now c.args.journal.now l.i _ _ c.selected_by-report.result (vec_items l.out) (vec_items c.put_entry.new.out) (omega arith) (omega arith) c.selected_by-report.ensures c.in_ok-put_entry.ensures ∙ l.invariant
 
 pub returns : goal.returns
 returns c =

@@ -9,7 +9,7 @@ returns c =
     let start = vec_items c.args.out.now in
     let line = answer_line e.answer in
     let words = answer_words c.args.order c.args.report c.args.call e.answer e.after in
-    c.in-ok-put-indented.ensures
-    ∙ ap (λ (w : List ℕ). vec_items c.put-answer.new.out ++ indented w) (c.as-str.ensures.value ∙ c.in-ok-words.ensures)
-    ∙ ap (λ (l : List ℕ). l ++ indented words) c.in-ok-put-answer.ensures
+    c.in_ok-put_indented.ensures
+    ∙ ap (λ (w : List ℕ). vec_items c.put_answer.new.out ++ indented w) (c.as_str.ensures.value ∙ c.in_ok-words.ensures)
+    ∙ ap (λ (l : List ℕ). l ++ indented words) c.in_ok-put_answer.ensures
     ∙ append_assoc start line (indented words)
