@@ -1,14 +1,13 @@
 -- One entry of a journal: it keeps the invariant, adds to the account, and comes nearer to a response.
-use Rattle.std.proofs.Common.{◌≡◌, ℕ, zero, suc, ◌+◌, ◌^◌, ◌<◌, ◌≤◌, Bool, ◌⊎◌, List, [], ◌∷◌, ◌++◌, ℤ, Some, None, Option, sym, refl, ap, ◌∙◌, subst, inl, inr, append-nil, zero-add, one-add, arith}
+use Rattle.std.proofs.Common.{◌≡◌, ℕ, ◌+◌, ◌<◌, ◌≤◌, ◌⊎◌, List, [], ◌++◌, ℤ, Some, None, Option, sym, refl, ap, ◌∙◌, subst, inl, inr, append-nil, zero-add, one-add}
 use Rattle.std.specs.Option.{option_to_list}
 use Rattle.weigher.specs.declared.answers.Told.{Told}
 use Rattle.weigher.specs.declared.orders.Standing.{Standing}
 use Rattle.weigher.specs.Scale.{Scale}
 use Rattle.weigher.specs.Rules.{worked, sensed}
-use Rattle.wire.specs.Blocks.{value_in, word_at, read_image}
-use Rattle.wire.specs.Floats.{whole_of, bits_of}
+use Rattle.wire.specs.Blocks.{value_in}
+use Rattle.wire.specs.Floats.{whole_of}
 use Rattle.wire.proofs.Arrangements.{image_laws}
-use Rattle.board.specs.declared.block.Block.{Block}
 use Rattle.board.specs.declared.block.State.{State}
 use Rattle.board.specs.declared.inner.Inner.{Inner}
 use Rattle.board.specs.declared.journal.Answer.{Answer}

@@ -1,5 +1,5 @@
 -- What holds between calls: the order below belongs to the open command, the response says what the command waits for, and the book agrees.
-use Rattle.std.proofs.Common.{◌≡◌, ℕ, suc, ◌<◌, ◌≤◌, Bool, ◌⊎◌, ◌++◌, ℤ, Some, None, Option}
+use Rattle.std.proofs.Common.{◌≡◌, ℕ, suc, ◌<◌, ◌≤◌, ◌⊎◌, ◌++◌, ℤ, Some, None, Option}
 use Rattle.std.specs.Option.{option_to_list}
 use Rattle.weigher.specs.declared.orders.Order.{Order}
 use Rattle.weigher.specs.declared.orders.Order.TheVariants.{TareWhenStill, ZeroWhenStill, TareNow, ZeroNow, ClearTare, PresetTare, Settle}

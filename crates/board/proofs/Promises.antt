@@ -1,5 +1,5 @@
 -- The account, the book and progress, over every journal that the rules give.
-use Rattle.std.proofs.Common.{◌≡◌, ℕ, zero, suc, ◌+◌, ◌-◌, ◌<◌, ◌≤◌, Bool, eqb, ◌⊎◌, List, [], ◌∷◌, ◌++◌, ℤ, pos, Some, None, Option, sym, refl, ap, ◌∙◌, subst, inl, inr, append_assoc, append-nil, zero-add, one-add, arith}
+use Rattle.std.proofs.Common.{◌≡◌, ℕ, ◌+◌, ◌-◌, ◌≤◌, Bool, eqb, ◌⊎◌, List, [], ◌∷◌, ◌++◌, ℤ, Some, None, Option, sym, refl, ap, ◌∙◌, subst, inl, inr, append_assoc, append-nil, arith}
 use Rattle.std.specs.Option.{option_to_list}
 use Rattle.std.proofs.lemmas.Bool.{cond_both}
 use Rattle.weigher.specs.declared.orders.Order.{Order as WeigherOrder}
@@ -21,13 +21,13 @@ use Rattle.board.specs.declared.note.Note.{Note}
 use Rattle.board.specs.declared.setting.Settings.{Settings}
 use Rattle.board.specs.Account.{look_after, taken_by, closed_by, taken, closed, Account}
 use Rattle.board.specs.Boards.{new_inner, look_of}
-use Rattle.board.specs.Book.{Book, opened, emptied, succeeded, settled_by, valued, noted, entered, kept, response_in, Agrees, BookKept}
-use Rattle.board.specs.Journals.{Step, Played, done, next}
-use Rattle.board.specs.Progress.{scan_of, answered_scans, shown_by, shown_after, Posts, AnsweredIn, Progress}
+use Rattle.board.specs.Book.{Book, opened, emptied, succeeded, settled_by, valued, noted, entered, kept, response_in, BookKept}
+use Rattle.board.specs.Journals.{Played, done, next}
+use Rattle.board.specs.Progress.{scan_of, answered_scans, shown_by, shown_after, Posts, Progress}
 use Rattle.board.specs.Promise.{Ruled, Promise}
 use Rattle.board.specs.Registers.{open_word}
-use Rattle.board.proofs.Entries.{EntryKept, entry_keeps}
-use Rattle.board.proofs.Invariant.{NoOrder, Tied, Inv, LeftIn, Within}
+use Rattle.board.proofs.Entries.{entry_keeps}
+use Rattle.board.proofs.Invariant.{NoOrder, Tied, Inv, Within}
 
 -- the book remembers the response that the last answered scan showed
 settled_shown : (w r : Option ℕ) (load : ℤ) (b : Book) → (settled_by w r load b).shown ≡ b.shown

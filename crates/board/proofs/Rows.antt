@@ -1,5 +1,5 @@
 -- What each row of the command list says of its number.
-use Rattle.std.proofs.Common.{◌≡◌, ℕ, ◌<◌, Bool, eqb, List, [], ◌∷◌, ℤ, Some, refl, subst, arith}
+use Rattle.std.proofs.Common.{◌≡◌, ℕ, ◌<◌, eqb, List, [], ◌∷◌, ℤ, Some, refl, subst, arith}
 use Rattle.std.proofs.lemmas.Bool.{cond_both, eqb-true}
 use Rattle.board.specs.declared.list.Command.{Command}
 use Rattle.board.specs.Book.{Book, succeeded}

@@ -1,11 +1,10 @@
 -- One answered scan from any board, weigher and book that the invariant ties.
-use Rattle.std.proofs.Common.{◌≡◌, ℕ, ◌<◌, ◌≤◌, Bool, ℤ, Some, None, Option, sym, refl, subst}
+use Rattle.std.proofs.Common.{◌≡◌, ℕ, ◌<◌, ◌≤◌, Bool, ℤ, Some, None, Option, sym, subst}
 use Rattle.weigher.specs.declared.orders.Order.{Order}
 use Rattle.weigher.specs.declared.orders.Order.TheVariants.{TareWhenStill, ZeroWhenStill, TareNow, ZeroNow, ClearTare, PresetTare, Settle}
 use Rattle.weigher.specs.declared.orders.Standing.{Standing}
 use Rattle.weigher.specs.Scale.{Scale}
 use Rattle.weigher.specs.Rules.{worked}
-use Rattle.board.specs.declared.block.Block.{Block}
 use Rattle.board.specs.declared.block.State.{State}
 use Rattle.board.specs.declared.block.State.TheVariants.{Ready, Working, FirstStep, FirstFailed, Between, SecondStep, SecondFailed, Cancelling}
 use Rattle.board.specs.declared.block.steps.Judged.{Judged}

@@ -1,6 +1,6 @@
 -- One answered scan, state by state: it keeps the invariant, adds to the account, and comes nearer to a response.
 -- The lemmas speak of a board and a book that agree by being written with the same numbers.
-use Rattle.std.proofs.Common.{◌≡◌, ℕ, suc, ◌+◌, ◌-◌, ◌*◌, ◌%◌, ◌<◌, ◌≤◌, Bool, true, false, cond, not, ◌&&◌, eqb, leb, ◌⊎◌, [], ◌∷◌, ◌++◌, ℤ, pos, ◌-ℤ◌, nat_abs, Some, None, Option, unwrap_or, sym, refl, ap, ◌∙◌, subst, inl, inr, arith}
+use Rattle.std.proofs.Common.{◌≡◌, ℕ, suc, ◌-◌, ◌*◌, ◌<◌, ◌≤◌, Bool, cond, not, ◌&&◌, eqb, leb, [], ◌∷◌, ◌++◌, ℤ, pos, ◌-ℤ◌, nat_abs, Some, None, Option, unwrap_or, sym, refl, ap, ◌∙◌, subst, inl, inr, arith}
 use lib.Signed.{le_z}
 use Rattle.std.specs.Option.{option_to_list}
 use Rattle.std.proofs.lemmas.Bool.{cond_both, eqb-true, eqb-false, ne_eqb}
@@ -10,13 +10,13 @@ use Rattle.weigher.specs.declared.orders.Order.{Order}
 use Rattle.weigher.specs.declared.orders.Order.TheVariants.{TareWhenStill, ZeroWhenStill, TareNow, ZeroNow, ClearTare, PresetTare, Settle}
 use Rattle.weigher.specs.declared.orders.Standing.{Standing}
 use Rattle.weigher.specs.Scale.{Scale}
-use Rattle.weigher.specs.Rules.{worked, carried, tared, zeroed, ready as isReady, ended, with_standing, begun, preset_fits}
+use Rattle.weigher.specs.Rules.{worked, carried, tared, zeroed, ready as isReady, ended, begun, preset_fits}
 use Rattle.board.specs.declared.block.Block.{Block}
 use Rattle.board.specs.declared.block.State.{State}
 use Rattle.board.specs.declared.block.State.TheVariants.{Ready, Working, FirstStep, FirstFailed, Between, SecondStep, SecondFailed, Cancelling}
 use Rattle.board.specs.declared.block.steps.Judged.{Judged}
 use Rattle.board.specs.declared.block.steps.Verdict.{Verdict}
-use Rattle.board.specs.declared.block.steps.Verdict.TheVariants.{Ignored, Closed, Selected, Opened, Started, Failed, Cancelled}
+use Rattle.board.specs.declared.block.steps.Verdict.TheVariants.{Ignored, Closed, Opened, Started, Failed, Cancelled}
 use Rattle.board.specs.declared.command.Class.{Class}
 use Rattle.board.specs.declared.command.Class.TheVariants.{Report as ReportClass, NoOperation, PresetTare as PresetClass, Order as OrderClass, WeightTest, Step}
 use Rattle.board.specs.declared.command.StepWord.{StepWord}
@@ -26,12 +26,12 @@ use Rattle.board.specs.declared.note.Note.{Note}
 use Rattle.board.specs.declared.report.Report.{Report}
 use Rattle.board.specs.declared.setting.Settings.{Settings}
 use Rattle.board.specs.Acting.{acted, opened_by, started_by}
-use Rattle.board.specs.Book.{Book, succeeded, emptied, valued, noted}
-use Rattle.board.specs.Judging.{verdict_on, taken_as, class_as, preset_as, cancel_only, or_retry, or_next, second_step, step_in}
+use Rattle.board.specs.Book.{Book, succeeded, emptied, valued}
+use Rattle.board.specs.Judging.{class_as, preset_as, cancel_only, or_retry, or_next, second_step, step_in}
 use Rattle.board.specs.Notes.{nothing, takes, at_once, answers}
-use Rattle.board.specs.Registers.{compares, shown, posted, open_word}
+use Rattle.board.specs.Registers.{shown, posted, open_word}
 use Rattle.board.specs.Scans.{responded, judged, in_board}
-use Rattle.board.proofs.Invariant.{WordFor, IsSettle, Tied, Inv, Kept, Within}
+use Rattle.board.proofs.Invariant.{WordFor, Tied, Inv, Kept, Within}
 
 -- a word whose success changes nothing in the book, and that is no response with a meaning of its own
 pub record Plain (w : ℕ) : Type 0 where

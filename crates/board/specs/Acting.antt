@@ -1,5 +1,5 @@
 -- What a verdict does to a block and to the weigher below, and the note that it leaves.
-use Rattle.std.specs.Prelude.{ℕ, ◌+◌, cond, Some, None, Option, ◌==◌}
+use Rattle.std.specs.Prelude.{ℕ, cond, Some, None, Option, ◌==◌}
 use Rattle.weigher.specs.declared.orders.Order.TheVariants.{Settle}
 use Rattle.weigher.specs.Scale.{Scale}
 use Rattle.weigher.specs.Rules.{begun, dropped}

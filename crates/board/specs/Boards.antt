@@ -1,5 +1,5 @@
 -- A new board, what look tells of a board, and the reply to an acyclic read.
-use Rattle.std.specs.Prelude.{ℕ, true, false, cond, List, ℤ, pos, Some, None, Option, ◌==◌}
+use Rattle.std.specs.Prelude.{ℕ, true, false, cond, List, pos, Some, None, Option, ◌==◌}
 use Rattle.weigher.specs.Scale.{Scale}
 use Rattle.wire.specs.Blocks.{strip_bytes}
 use Rattle.wire.specs.Floats.{bits_of}

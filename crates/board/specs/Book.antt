@@ -1,5 +1,5 @@
 -- The book: zero, tare and deviation as they follow from what the board told, and from the load after each answered scan.
-use Rattle.std.specs.Prelude.{◌≡◌, ℕ, Bool, cond, not, ◌&&◌, List, [], ◌∷◌, ◌++◌, ℤ, pos, ◌-ℤ◌, Some, None, Option, ◌==◌}
+use Rattle.std.specs.Prelude.{◌≡◌, ℕ, cond, not, ◌&&◌, List, [], ◌∷◌, ◌++◌, ℤ, pos, ◌-ℤ◌, Some, None, Option, ◌==◌}
 use Rattle.std.specs.Option.{unwrap_or}
 use Rattle.wire.specs.declared.order.Order.{Order}
 use Rattle.wire.specs.Blocks.{value_in, word_at}

@@ -1,5 +1,5 @@
 -- What is to be done about a command word that differs from the compared word.
-use Rattle.std.specs.Prelude.{ℕ, Bool, true, false, cond, ◌&&◌, ℤ, pos, Some, None, Option, int_le}
+use Rattle.std.specs.Prelude.{ℕ, cond, ◌&&◌, ℤ, pos, Some, None, Option, int_le}
 use Rattle.weigher.specs.declared.orders.Order.{Order as WeigherOrder}
 use Rattle.weigher.specs.declared.orders.Order.TheVariants.{PresetTare as presetTo, Settle}
 use Rattle.board.specs.declared.block.State.{State}

@@ -1,5 +1,5 @@
 -- The registers of a block after a response is posted or shown, and after a word was compared.
-use Rattle.std.specs.Prelude.{◌≡◌, ℕ, ◌+◌, ◌%◌, Some, None, Option}
+use Rattle.std.specs.Prelude.{ℕ, ◌+◌, ◌%◌, Some, None, Option}
 use Rattle.board.specs.declared.block.Block.{Block}
 use Rattle.board.specs.declared.block.State.{State}
 use Rattle.board.specs.declared.block.State.TheVariants.{Ready, Working, FirstStep, FirstFailed, Between, SecondStep, SecondFailed, Cancelling}

@@ -1,5 +1,5 @@
 -- What an answered scan does, once the weigher was tended: a response that is due is posted, else the command word is judged.
-use Rattle.std.specs.Prelude.{◌≡◌, ℕ, Bool, cond, ◌||◌, List, ℤ, Some, None, Option, ◌==◌, nat_le}
+use Rattle.std.specs.Prelude.{◌≡◌, ℕ, cond, ◌||◌, List, Some, None, Option, ◌==◌, nat_le}
 use Rattle.std.specs.Option.{unwrap_or}
 use Rattle.weigher.specs.declared.answers.Told.{Told}
 use Rattle.weigher.specs.Scale.{Scale, gross}
@@ -15,7 +15,6 @@ use Rattle.board.specs.declared.note.Note.{Note}
 use Rattle.board.specs.Acting.{acted}
 use Rattle.board.specs.Commands.{class_of}
 use Rattle.board.specs.Dues.{due_of}
-use Rattle.board.specs.Images.{image_of}
 use Rattle.board.specs.Inners.{with_block, with_deviation, flipped}
 use Rattle.board.specs.Judging.{verdict_on}
 use Rattle.board.specs.Notes.{nothing, answers}

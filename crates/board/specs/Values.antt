@@ -2,7 +2,6 @@
 use Rattle.std.specs.Prelude.{ℕ, cond, ℤ}
 use Rattle.weigher.specs.Scale.{Scale, gross, net}
 use Rattle.wire.specs.Rounding.{rounded as roundedBy}
-use Rattle.board.specs.declared.inner.Inner.{Inner}
 use Rattle.board.specs.declared.report.Quantity.{Quantity}
 use Rattle.board.specs.declared.report.Quantity.TheVariants.{Gross, Tare, Net, Deviation}
 use Rattle.board.specs.declared.report.Report.{Report}

@@ -1,5 +1,5 @@
 -- What the scale did with a command that a scan closed.
-use Rattle.std.specs.Prelude.{ℕ, cond, ◌||◌, List, [], ◌++◌, Some, None, codes, Option, ◌==◌}
+use Rattle.std.specs.Prelude.{ℕ, cond, ◌||◌, List, ◌++◌, Some, None, codes, Option, ◌==◌}
 use Rattle.std.specs.Fmt.{signed_decimal}
 use Rattle.board.specs.declared.look.Look.{Look}
 use Rattle.board.specs.declared.note.Note.{Note}

@@ -1,5 +1,5 @@
 -- A drive file explained: each line of its listing, and below it what happened in plain words.
-use Rattle.std.specs.Prelude.{ℕ, cond, List, [], ◌∷◌, ◌++◌, Some, None, codes, decimal, Option, ◌==◌, slice_index}
+use Rattle.std.specs.Prelude.{ℕ, cond, List, [], ◌∷◌, ◌++◌, Some, None, codes, Option, ◌==◌, slice_index}
 use Rattle.std.specs.Option.{unwrap_or}
 use Rattle.wire.specs.declared.order.Order.{Order}
 use Rattle.wire.specs.Blocks.{value_in, mask_in, command_in}

@@ -1,12 +1,6 @@
 -- What a scan or an acyclic read told, in plain words.
-use Rattle.std.specs.Prelude.{ℕ, cond, eqb, List, [], ◌∷◌, ◌++◌, ℤ, Some, None, codes, decimal, Option}
+use Rattle.std.specs.Prelude.{ℕ, List, ◌++◌, ℤ, Some, None, codes, decimal, Option}
 use Rattle.std.specs.Fmt.{signed_decimal}
-use Rattle.wire.specs.declared.order.Order.{Order}
-use Rattle.wire.specs.Blocks.{value_in, mask_in, command_in}
-use Rattle.wire.specs.Floats.{whole_of}
-use Rattle.board.specs.declared.look.Look.{Look}
-use Rattle.board.specs.declared.note.Note.{Note}
-use Rattle.explain.specs.declared.names.Report.{Report}
 use Rattle.explain.specs.declared.words.Closing.{Closing}
 use Rattle.explain.specs.declared.words.Grams.{Grams}
 use Rattle.explain.specs.declared.words.Open.{Open}

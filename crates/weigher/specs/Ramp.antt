@@ -1,5 +1,5 @@
 -- What a ramp does: each tend moves the load by the step towards the target and not past it; it is still if that left the load alone.
-use Rattle.std.specs.Prelude.{◌≡◌, ℕ, Bool, true, false, cond, ◌&&◌, ℤ, pos, ◌+ℤ◌, ◌-ℤ◌, Some, None, Option, int_le, int_lt, nat_le, unsigned_abs}
+use Rattle.std.specs.Prelude.{◌≡◌, ℕ, true, false, cond, ◌&&◌, ℤ, pos, ◌+ℤ◌, ◌-ℤ◌, Some, None, Option, int_le, int_lt, nat_le, unsigned_abs}
 use Rattle.std.specs.Int.{int_min, int_max}
 use Rattle.weigher.specs.Scale.{Scale}
 

@@ -1,5 +1,5 @@
 -- What begin, tend and drop do to the meaning of a weigher.
-use Rattle.std.specs.Prelude.{◌≡◌, ℕ, ◌-◌, ◌*◌, Bool, true, false, cond, not, ◌&&◌, ◌||◌, ℤ, pos, is_some, Some, None, Option, ◌==◌, int_le, nat_le, unsigned_abs}
+use Rattle.std.specs.Prelude.{◌≡◌, ℕ, ◌-◌, ◌*◌, Bool, true, cond, not, ◌&&◌, ◌||◌, ℤ, pos, is_some, Some, None, Option, ◌==◌, int_le, nat_le, unsigned_abs}
 use Rattle.weigher.specs.declared.orders.Order.{Order}
 use Rattle.weigher.specs.declared.orders.Order.TheVariants.{TareWhenStill, ZeroWhenStill, TareNow, ZeroNow, ClearTare, PresetTare, Settle}
 use Rattle.weigher.specs.declared.orders.Standing.{Standing}

@@ -1,5 +1,5 @@
 -- The meaning of a weigher: what it weighs, what it keeps, and the order that stands.
-use Rattle.std.specs.Prelude.{◌≡◌, ℕ, ◌*◌, ◌≤◌, Bool, true, false, ℤ, pos, ◌-ℤ◌, ◌≤ℤ◌, is_some, Option, unsigned_abs}
+use Rattle.std.specs.Prelude.{ℕ, ◌*◌, ◌≤◌, Bool, ℤ, pos, ◌-ℤ◌, ◌≤ℤ◌, is_some, Option, unsigned_abs}
 use Rattle.weigher.specs.declared.answers.View.{View}
 use Rattle.weigher.specs.declared.orders.Order.{Order}
 use Rattle.weigher.specs.declared.orders.Standing.{Standing}

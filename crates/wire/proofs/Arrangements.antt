@@ -1,9 +1,9 @@
 -- The laws of the orders, by cases on the order: at each of the four all places are numbers.
-use Rattle.std.proofs.Common.{◌≡◌, ℕ, ◌+◌, ◌*◌, ◌/◌, ◌%◌, ◌^◌, ◌<◌, ◌≤◌, List, [], ◌∷◌, length, sym, refl, ap, ◌∙◌, arith}
+use Rattle.std.proofs.Common.{◌≡◌, ℕ, ◌/◌, ◌^◌, ◌<◌, ◌≤◌, List, length, sym, refl, arith}
 use Rattle.std.proofs.lemmas.Bool.Decides.{nat_tests}
 use Rattle.wire.specs.declared.order.Order.{Order}
 use Rattle.wire.specs.declared.order.Order.TheVariants.{Plain, BytesSwapped, WordsSwapped, BothSwapped}
-use Rattle.wire.specs.Orders.{place, ordered, other_byte, other_word}
+use Rattle.wire.specs.Orders.{place, ordered}
 use Rattle.wire.specs.Blocks.{read_image, word_at, value_in}
 use Rattle.wire.specs.Laws.{OrderLaws, ImageLaws}
 use Rattle.wire.proofs.Turns.{turned_none}

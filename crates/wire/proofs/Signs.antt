@@ -1,7 +1,7 @@
 -- A float of a whole number: its sign, its size, and that minus a float of n is the float of minus n.
-use Rattle.std.proofs.Common.{◌≡◌, ℕ, zero, suc, ◌+◌, ◌*◌, ◌^◌, ◌<◌, ◌≤◌, Bool, true, false, cond, ltb, ℤ, pos, negsuc, nat_abs, sym, refl, ap, ◌∙◌, arith}
+use Rattle.std.proofs.Common.{◌≡◌, ℕ, zero, suc, ◌+◌, ◌*◌, ◌^◌, ◌≤◌, Bool, true, false, cond, ltb, ℤ, pos, negsuc, nat_abs, refl, arith}
 use lib.Signed.{lt_z}
-use lib.Ieee.{Float, inf, fin, Format, binary32, prec, emax, low, neg, odd, units, round, of_int}
+use lib.Ieee.{Float, inf, Format, binary32, prec, emax, low, neg, odd, units, round, of_int}
 use lib.Ieee.Exact.{HasValue}
 use lib.Ieee.Back.{round_whole}
 use Rattle.std.proofs.lemmas.Bool.{ltb-true}

@@ -1,5 +1,5 @@
 -- Why `rounded` is the nearest multiple: what is left over by the steps is less than two of them.
-use Rattle.std.proofs.Common.{◌≡◌, ℕ, zero, suc, ◌+◌, ◌-◌, ◌*◌, ◌/◌, ◌%◌, ◌<◌, ◌≤◌, true, false, T, ℤ, pos, negsuc, ◌-ℤ◌, neg_ℤ, nat_abs, sym, refl, ap, ◌∙◌, subst, mul_assoc, mul_comm, mul_left_comm, arith}
+use Rattle.std.proofs.Common.{◌≡◌, ℕ, zero, suc, ◌+◌, ◌-◌, ◌*◌, ◌/◌, ◌%◌, ◌<◌, ◌≤◌, true, false, T, ℤ, pos, negsuc, ◌-ℤ◌, neg_ℤ, nat_abs, sym, refl, ap, ◌∙◌, mul_assoc, mul_comm, mul_left_comm, arith}
 use native.Mathlib.Nat.{mul-mod_right, zero-mod}
 use lib.IntN.{neg_ℤ-neg_ℤ}
 use lib.Signed.{lt_z}

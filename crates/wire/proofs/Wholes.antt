@@ -1,8 +1,8 @@
 -- A float equals the whole number z exactly where `whole_float` answers z, for every z up to the largest.
-use Rattle.std.proofs.Common.{◌≡◌, ℕ, zero, suc, ◌+◌, ◌*◌, ◌/◌, ◌%◌, ◌^◌, ◌<◌, ◌≤◌, min, Bool, true, false, cond, not, ◌&&◌, ◌||◌, T, eqb, leb, ◌⊎◌, ℤ, pos, negsuc, neg_ℤ, nat_abs, Some, None, Option, sym, refl, ap, ◌∙◌, subst, inl, inr, ⊎_elim, zero-lt-suc, mul_assoc, mul_comm, mul-pos, div-add-mod', zero-mul, mul-one, mul_right_comm, mul-div_cancel, arith, le→leb, eqb→eq, leb→le}
+use Rattle.std.proofs.Common.{◌≡◌, ℕ, zero, suc, ◌*◌, ◌/◌, ◌%◌, ◌<◌, ◌≤◌, Bool, true, false, ◌&&◌, ◌||◌, T, eqb, leb, ◌⊎◌, ℤ, pos, neg_ℤ, nat_abs, Some, None, Option, sym, refl, ap, ◌∙◌, subst, inl, inr, ⊎_elim, zero-lt-suc, mul-pos, div-add-mod', zero-mul, mul-one, mul_right_comm, mul-div_cancel, arith, eqb→eq}
 use mathlib.Core.Bool.{beq}
 use native.Mathlib.Nat.{mul-mod_left, eq_of_mul-eq-mul_right, min-eq_left}
-use lib.Ieee.{Float, nan, inf, fin, binary32, up, down, eq, level, of_int, of_bits, to_bits, to_signed, nan_bits, is_nan}
+use lib.Ieee.{Float, nan, inf, fin, binary32, up, down, eq, of_int, of_bits, to_signed, nan_bits, is_nan}
 use lib.Ieee.Bits.{of_bits-to_bits, nan_bits_is}
 use lib.Ieee.Exact.{HasValue}
 use lib.Ieee.Fits.{of_int-fits, down_pos, and_i, and_l, and_r, eq→eqb}

@@ -1,5 +1,5 @@
 -- Whole numbers as 32-bit floats, and which bit patterns stand for a whole number.
-use Rattle.std.specs.Prelude.{◌≡◌, ℕ, ◌*◌, ◌/◌, ◌%◌, ◌≤◌, Bool, true, false, cond, ◌&&◌, T, ℤ, pos, neg_ℤ, Some, None, Option, ◌==◌, from_bits, nat_le, to_bits, unsigned_abs, Float}
+use Rattle.std.specs.Prelude.{ℕ, ◌*◌, ◌/◌, ◌%◌, ◌≤◌, Bool, true, false, cond, ◌&&◌, T, ℤ, pos, neg_ℤ, Some, None, Option, ◌==◌, from_bits, nat_le, to_bits, unsigned_abs, Float}
 use Rattle.std.specs.Float.{nan, inf, fin, binary32}
 use Rattle.std.specs.Float.Ieee.{up, down, eq, of_int}
 

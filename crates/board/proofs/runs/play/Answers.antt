@@ -1,5 +1,5 @@
 -- One more call is one more step of the run.
-use Rattle.std.proofs.Common.{ℕ, length, take, refl, ap, ◌∙◌, subst, arith}
+use Rattle.std.proofs.Common.{ℕ, length, take, refl, ◌∙◌, subst, arith}
 use Rattle.std.proofs.lemmas.List.{drop-set-lt}
 use Rattle.board.specs.Journals.{Played, done}
 use Rattle.board.proofs.Plays.{play_more, play_all}

@@ -1,4 +1,4 @@
-use Rattle.std.proofs.Common.{ℕ, List, [], ◌∷◌, ◌++◌, get_or, codes, sym, ap, ◌∙◌, rules}
+use Rattle.std.proofs.Common.{ℕ, List, ◌∷◌, ◌++◌, get_or, codes, sym, ap, ◌∙◌, rules}
 use Rattle.drivefile.specs.Lines.{hex_bytes}
 use Rattle.drivefile.proofs.Bytes.{four_bytes}
 use Rattle.drivefile.proofs.lines.read_line.Goals as goal
