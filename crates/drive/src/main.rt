@@ -9,17 +9,20 @@ use std::{env, io};
 // One byte more than a drive file may have, so that a longer one is told without reading it all.
 const ENOUGH: u64 = 65_537;
 
-// Whether the explanation is asked for, by the one argument --explain.
-fn explains(rt: &HostRuntime) -> io::Result<bool> {
-    let mut arguments = env::args(rt)?.skip(1);
-    let Some(word) = arguments.next() else {
-        return Ok(false);
+// Whether the explanation is asked for, by the one argument --explain. Any other arguments change nothing, readable or not.
+fn explains(rt: &HostRuntime) -> bool {
+    let Ok(arguments) = env::args(rt) else {
+        return false;
     };
-    Ok(word.as_str() == "--explain" && arguments.next().is_none())
+    let mut arguments = arguments.skip(1);
+    let Some(word) = arguments.next() else {
+        return false;
+    };
+    word.as_str() == "--explain" && arguments.next().is_none()
 }
 
 fn main(rt: HostRuntime) -> io::Result<()> {
-    let explains = explains(&rt)?;
+    let explains = explains(&rt);
     let mut file = Vec::new(rt.alloc());
     rt.stdin().take(ENOUGH).read_to_end(&mut file)?;
     let text = if explains {

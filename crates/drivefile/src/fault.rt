@@ -2,7 +2,7 @@
 ghost use Rattle.std.specs.Prelude.{◌≡◌};
 ghost use Rattle.drivefile.specs.Faults.{number_of};
 
-#[derive(Clone, Copy)]
+#[derive(Clone, Copy, PartialEq, Eq, Debug)]
 pub enum Flaw {
     StrangeKind = 31,
     CutShort = 32,
@@ -23,7 +23,7 @@ impl Flaw {
 }
 
 // The place counts bytes from the start of the file.
-#[derive(Clone, Copy)]
+#[derive(Clone, Copy, PartialEq, Eq, Debug)]
 pub struct Fault {
     pub flaw: Flaw,
     pub place: usize,
