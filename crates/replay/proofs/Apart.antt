@@ -1,5 +1,5 @@
 -- An input is read in one way only: a text has one first line, and a line says one thing. So good input is not refused.
-use Rattle.std.proofs.Common.{◌≡◌, ℕ, zero, suc, ◌+◌, ◌-◌, ◌<◌, ◌≤◌, ◌⊎◌, List, [], ◌∷◌, ◌++◌, length, get_or, take, drop, ℤ, Some, None, codes, sym, refl, ap, ◌∙◌, subst, inl, inr, eq-or-lt_of_le, arith, lit<, length-append, length-drop, length-take, get_or-drop, get_or-take, eqb-true}
+use Rattle.std.proofs.Common.{◌≡◌, ℕ, ◌+◌, ◌-◌, ◌<◌, ◌≤◌, ◌⊎◌, List, [], ◌∷◌, ◌++◌, length, get_or, take, drop, ℤ, Some, None, codes, sym, refl, ap, ◌∙◌, subst, inl, inr, eq-or-lt_of_le, arith, lit<, length-append, length-drop, length-take, get_or-drop, get_or-take, eqb-true}
 use lib.Seq.{get_or-append_seam}
 use lib.Utf8.{encode}
 use Rattle.std.proofs.lemmas.Str.Ascii.{encode_ascii}
@@ -17,7 +17,7 @@ use Rattle.replay.specs.Refusals.{LacksOrder, BadSample, Refused, at_settings, a
 use Rattle.replay.specs.Replays.{Unplayed, Unlisted, Listable}
 use Rattle.replay.specs.Runs.{declined_at, Explains}
 use Rattle.replay.specs.Words.{plain_order, IsNumber, Reads, Says}
-use Rattle.replay.proofs.Blanks.{Unparted, number_unparted, preset_unplain, cut_same}
+use Rattle.replay.proofs.Blanks.{number_unparted, preset_unplain, cut_same}
 
 -- where a line ends before the text does, there is a newline
 breaks : (w x r : List ℕ) (a : IsFirstLine w x r) → a.0 < length w → drop a.0 w ≡ 10 ∷ r

@@ -1,15 +1,15 @@
 -- Where a blank stands: none in a number and none in the name of an order, so that a line is parted in one way only.
-use Rattle.std.proofs.Common.{◌≡◌, ℕ, zero, suc, ◌+◌, ◌<◌, Bool, true, false, cond, not, ◌&&◌, eqb, ◌⊎◌, List, [], ◌∷◌, ◌++◌, length, get_or, drop, ℤ, IfErr, Some, None, codes, Option, sym, refl, ap, ◌∙◌, subst, inl, inr, le_of_suc-le-suc, arith, lit<, length-append, Bor, eqb-true}
+use Rattle.std.proofs.Common.{◌≡◌, ℕ, zero, suc, ◌<◌, Bool, true, false, cond, not, ◌&&◌, eqb, ◌⊎◌, List, [], ◌∷◌, ◌++◌, length, get_or, drop, ℤ, IfErr, Some, None, codes, Option, sym, refl, ap, ◌∙◌, subst, inl, le_of_suc-le-suc, arith, lit<, length-append, Bor, eqb-true}
 use borrow.Author.Tests.{eqb-false}
 use lib.Seq.{get_or-append_seam}
 use Rattle.std.proofs.lemmas.Str.Parse.{digit_at}
 use Rattle.std.proofs.lemmas.Str.Pattern.{IsSplitOnceResult, split_after, split_parts}
 use Rattle.std.specs.Option.{ok_or}
-use Rattle.std.specs.Str.Parse.{AllDigits, IsNumeral, without_leading_sign}
+use Rattle.std.specs.Str.Parse.{AllDigits}
 use Rattle.std.specs.Int.{IsInRange}
 use Rattle.weigher.specs.declared.orders.Order.{Order}
 use Rattle.weigher.specs.declared.orders.Order.TheVariants.{TareWhenStill, ZeroWhenStill, TareNow, ZeroNow, ClearTare, PresetTare, Settle}
-use Rattle.replay.specs.declared.failure.Flaw.TheVariants.{NoOrder}
+use Rattle.replay.specs.declared.failure.Flaw.TheVariants.{NoOrder, NoNumber}
 use Rattle.replay.specs.Inputs.{Settings}
 use Rattle.replay.specs.Refusals.{LacksSettings, LacksOrder}
 use Rattle.replay.specs.Words.{plain_order, IsNumber, Says}
@@ -124,6 +124,11 @@ unparted_names_none line h n =
 -- a preset is no plain order
 pub preset_unplain : (line t : List ℕ) (o : Order) → line ≡ codes "preset-tare " ++ t → plain_order line ≡ Some o → ⊥
 preset_unplain line t o e h = let z : None ≡ Some o = ap plain_order (sym e) ∙ h in let w : ◌≡◌ {A = ℕ} 0 1 = cc in omega arith
+
+-- a word that is no plain order is refused for that
+pub plain_blames : (o : Option Order) → IfErr (ok_or o NoOrder) (λ f. (f ≡ NoOrder) ⊎ (f ≡ NoNumber))
+plain_blames None = inl refl
+plain_blames (Some o) = tt
 
 pub plain_refused : (line : List ℕ) → Unparted line → (o : Option Order) → o ≡ plain_order line → IfErr (ok_or o NoOrder) (LacksOrder line)
 plain_refused line h None e = unparted_names_none line h (sym e)

@@ -1,5 +1,5 @@
 -- An input, line by line.
-use Rattle.std.proofs.Common.{◌≡◌, ℕ, List, [], ◌∷◌, ◌++◌, length, ℤ, IsErrAnd, IfOk, IfErr, Some, None, Ok, Err, Option, Result, sym, refl, subst, inl, inr, w32, to_z, of_z, Bor, MatchOption}
+use Rattle.std.proofs.Common.{◌≡◌, ℕ, ◌⊎◌, List, [], ◌∷◌, ◌++◌, length, ℤ, IsErrAnd, IfOk, IfErr, IfNone, Some, None, Ok, Err, Option, Result, sym, refl, ap, subst, inl, inr, w32, to_z, of_z, Bor, MatchOption}
 use Rattle.std.specs.Option.{ok_or}
 use Rattle.std.specs.Str.Iter.{lines_rest, lines_steps}
 use Rattle.std.specs.declared.str.Lines.{Lines}
@@ -7,8 +7,8 @@ use Rattle.weigher.specs.declared.orders.Order.{Order}
 use Rattle.replay.specs.declared.failure.Failure.{Failure}
 use Rattle.replay.specs.declared.failure.Failure.TheVariants.{Input, Memory, Streams}
 use Rattle.replay.specs.declared.failure.Flaw.{Flaw}
-use Rattle.replay.specs.declared.failure.Flaw.TheVariants.{MissingLine, NoSettings}
-use Rattle.replay.specs.Inputs.{NextLine, Settings, SettingsLine, OrderLine, SampleLines}
+use Rattle.replay.specs.declared.failure.Flaw.TheVariants.{MissingLine, NoSettings, NoOrder, NoNumber}
+use Rattle.replay.specs.Inputs.{NextLine, Settings, SettingsLine, OrderLine, SampleLines, AllSamples, Samples, Recorded, RecordedInLines}
 use Rattle.replay.specs.Refusals.{LacksSettings, LacksOrder, Refused, At, Unsampled, Unread, at_settings, at_order, at_sample}
 use Rattle.replay.specs.Words.{Reads, Says}
 use Rattle.replay.proofs.Plain.{reads_back}
@@ -17,6 +17,31 @@ use Rattle.replay.proofs.Plain.{reads_back}
 pub samples_more : (bs before line rest : List ℕ) (xs : List ℤ) (v : ℤ) → SampleLines bs xs before → NextLine before line rest → Reads line v → SampleLines bs (xs ++ (v ∷ [])) rest
 samples_more bs before line rest [] v e n r = (line, rest, subst (λ (z : List ℕ). NextLine z line rest) e n, r, refl)
 samples_more bs before line rest (x ∷ xs) v h n r = (h.0, h.1, h.2, h.3, samples_more h.1 before line rest xs v h.4 n r)
+
+-- what stands in lines of the text, and ends with it, is what the text records
+samples_in_lines : (bs : List ℕ) (vs : List ℤ) (rest : List ℕ) → SampleLines bs vs rest → length rest ≡ 0 → Samples bs vs
+samples_in_lines bs [] rest s e = subst (λ (z : List ℕ). length z ≡ 0) s e
+samples_in_lines bs (v ∷ vs) rest s e = (s.0, s.1, s.2.1, s.3, samples_in_lines s.1 vs rest s.4 e)
+
+pub all_samples : (bs : List ℕ) (vs : List ℤ) → AllSamples bs vs → Samples bs vs
+all_samples bs vs a = samples_in_lines bs vs a.0 a.1 a.2
+
+pub lines_hold : (bs after_first after_second : List ℕ) (c t : ℤ) (o : Order) (vs : List ℤ) → SettingsLine bs c t after_first → OrderLine after_first o after_second → AllSamples after_second vs → RecordedInLines bs c t o vs
+lines_hold bs after_first after_second c t o vs x y z = record { after_first = after_first; after_second = after_second; line_1 = x; line_2 = y; samples = z }
+
+pub recorded_in_lines : (bs : List ℕ) (c t : ℤ) (o : Order) (vs : List ℤ) → RecordedInLines bs c t o vs → Recorded bs c t o vs
+recorded_in_lines bs c t o vs r =
+    record {
+      first = r.line_1.0;
+      after_first = r.after_first;
+      second = r.line_2.0;
+      after_second = r.after_second;
+      line_1 = r.line_1.1.1;
+      settings = r.line_1.2;
+      line_2 = r.line_2.1.1;
+      order = r.line_2.2;
+      samples = all_samples r.after_second vs r.samples;
+    }
 
 pub settings_back : (line : List ℕ) (c t : ℤ) → Settings line c t → Settings line (to_z w32 (of_z w32 c)) (to_z w32 (of_z w32 t))
 settings_back line c t s =
@@ -74,7 +99,12 @@ samples_refused bs c t o rest more (Input n w) a b x = at_sample c t o x.0 rest 
 samples_refused bs c t o rest more Memory a b x = tt
 samples_refused bs c t o rest more Streams a b x = absurd x
 
+-- a flaw of an order's line is one of line 2
+pub order_blamed : (f : Flaw) → (f ≡ NoOrder) ⊎ (f ≡ NoNumber) → (Input 2 f ≡ Input 2 NoOrder) ⊎ (Input 2 f ≡ Input 2 NoNumber)
+order_blamed f (inl e) = inl (ap (Input 2) e)
+order_blamed f (inr e) = inr (ap (Input 2) e)
+
 -- settings that a line lacks are refused as such
-pub lacking : (s : Option (ℤ × ℤ)) (line : List ℕ) → MatchOption s (LacksSettings line) (λ v. Settings line v.0 v.1) → IfErr (ok_or s (Input 1 NoSettings)) (At 1 (λ w. (w ≡ NoSettings) × LacksSettings line))
+pub lacking : (s : Option (ℤ × ℤ)) (line : List ℕ) → IfNone s (LacksSettings line) → IfErr (ok_or s (Input 1 NoSettings)) (At 1 (λ w. (w ≡ NoSettings) × LacksSettings line))
 lacking None line h = (refl, (refl, h))
 lacking (Some v) line h = tt

@@ -1,7 +1,6 @@
 -- The bytes of a listing: a line for each entry, then zero and tare.
 use Rattle.std.specs.Prelude.{ℕ, List, [], ◌∷◌, ◌++◌, ℤ, codes}
 use Rattle.std.specs.Fmt.{signed_decimal}
-use Rattle.weigher.specs.Scale.{Scale}
 use Rattle.replay.specs.declared.journal.Entry.{Entry}
 use Rattle.replay.specs.Entries.{entry_line}
 

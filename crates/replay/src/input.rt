@@ -1,9 +1,9 @@
 // The input: settings, an order, and the samples, each on its line.
-ghost use Rattle.std.specs.Prelude.{◌≡◌, IfOk, IfErr, MatchOption, MatchResult};
+ghost use Rattle.std.specs.Prelude.{◌≡◌, ◌⊎◌, IfOk, IfErr, MatchOption, MatchResult};
 ghost use Rattle.std.specs.Str.Iter.{lines_rest};
 ghost use Rattle.replay.specs.declared.failure.Failure.TheVariants.{Input};
-ghost use Rattle.replay.specs.declared.failure.Flaw.TheVariants.{MissingLine, NoSettings, NoNumber};
-ghost use Rattle.replay.specs.Inputs.{Settings, AllSamples, Recorded, RecordedInLines};
+ghost use Rattle.replay.specs.declared.failure.Flaw.TheVariants.{MissingLine, NoSettings, NoOrder, NoNumber};
+ghost use Rattle.replay.specs.Inputs.{Settings, Samples, AllSamples, Recorded, RecordedInLines};
 ghost use Rattle.replay.specs.Refusals.{LacksSettings, LacksOrder, At, Unsampled, Unread};
 ghost use Rattle.replay.specs.Words.{Reads, Says, IsNumber};
 
@@ -43,6 +43,7 @@ impl Recording {
 
 fn settings(line: Option<&str>) -> Result<(i32, i32), Failure>
     ensures says { IfOk result (λ s. MatchOption line.entry ⊥ (λ x. Settings x.now s.0 s.1)) }
+    ensures blames { IfErr result (λ f. MatchOption line.entry (f ≡ Input 1 MissingLine) (λ _. f ≡ Input 1 NoSettings)) }
     ensures refused { IfErr result (At 1 (λ w. MatchOption line.entry (w ≡ MissingLine) (λ x. (w ≡ NoSettings) × LacksSettings x.now))) }
 {
     let Some(line) = line else {
@@ -53,6 +54,7 @@ fn settings(line: Option<&str>) -> Result<(i32, i32), Failure>
 
 fn order(line: Option<&str>) -> Result<Order, Failure>
     ensures says { IfOk result (λ o. MatchOption line.entry ⊥ (λ x. Says x.now o)) }
+    ensures blames { IfErr result (λ f. MatchOption line.entry (f ≡ Input 2 MissingLine) (λ _. (f ≡ Input 2 NoOrder) ⊎ (f ≡ Input 2 NoNumber))) }
     ensures refused { IfErr result (At 2 (λ w. MatchOption line.entry (w ≡ MissingLine) (λ x. LacksOrder x.now w))) }
 {
     let Some(line) = line else {
@@ -66,6 +68,7 @@ fn order(line: Option<&str>) -> Result<Order, Failure>
 
 // The samples stand from line 3 on.
 fn samples(heap: Global, lines: Lines<'_>) -> Result<Vec<i32>, Failure>
+    ensures samples { IfOk result (λ v. Samples (lines_rest lines.entry) v.items) }
     ensures read { IfOk result (λ v. AllSamples (lines_rest lines.entry) v.items) }
     ensures refused { IfErr result (Unsampled (lines_rest lines.entry)) }
 {

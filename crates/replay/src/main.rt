@@ -11,15 +11,15 @@ mod words;
 
 use failure::Failure;
 use std::io;
+use std::process::ExitCode;
 
-fn main(rt: HostRuntime) -> Result<(), Failure> {
-    match run(&rt) {
-        Ok(()) => Ok(()),
-        Err(failure) => {
-            rt.println(failure)?;
-            Err(failure)
-        }
-    }
+// A failure is one line of standard output and status 1; nothing is written to standard error.
+fn main(rt: HostRuntime) -> ExitCode {
+    let Err(failure) = run(&rt) else {
+        return ExitCode::SUCCESS;
+    };
+    let _ = rt.println(failure);
+    ExitCode::FAILURE
 }
 
 fn run(rt: &HostRuntime) -> Result<(), Failure> {

@@ -4,13 +4,17 @@ use std::alloc::Global;
 use std::process::Abort;
 use std::test::Fail;
 
-// Checks what the program prints of an input: the listing, or the one line that says why there is none.
+// What the program prints of an input: the listing, or the one line that says why there is none.
+fn printed(heap: Global, input: &str) -> Result<String, Fail> {
+    match replay(heap, input) {
+        Ok(listing) => Ok(listing),
+        Err(failure) => Ok(failure.to_string(heap)?),
+    }
+}
+
+// Checks what the program prints of an input.
 fn prints(rt: &impl Abort, heap: Global, input: &str, output: &str) -> Result<(), Fail> {
-    let printed = match replay(heap, input) {
-        Ok(listing) => listing,
-        Err(failure) => failure.to_string(heap)?,
-    };
-    assert_eq!(rt; printed.as_str(), output);
+    assert_eq!(rt; printed(heap, input)?.as_str(), output);
     Ok(())
 }
 
@@ -48,9 +52,12 @@ fn settings_and_orders_that_are_declined(rt: HostRuntime) -> Result<(), Fail> {
     prints(&rt, heap, "15000 1001\npreset-tare -1\n1\n", tolerance)?;
     prints(&rt, heap, "15000 5\npreset-tare -1\n1\n", preset)?;
     prints(&rt, heap, "15000 5\npreset-tare 15001\n1\n", preset)?;
-    prints(&rt, heap, "0 5\nsettle\nx\n", "line 3: no number").note(
-        "what cannot be read comes first",
-    )
+    assert_eq!(rt;
+        printed(heap, "0 5\nsettle\nx\n")?.as_str(),
+        "line 3: no number",
+        "what cannot be read comes first"
+    );
+    Ok(())
 }
 
 #[test]
@@ -80,5 +87,10 @@ fn ends_with_the_order_or_the_samples(rt: HostRuntime) -> Result<(), Fail> {
         "15000 5\ntare-now\n-4000001\n",
         "1 0 fault waiting\nzero 0 tare 0\n",
     )?;
-    prints(&rt, heap, "15000 5\nsettle\n", "zero 0 tare 0\n").note("no samples")
+    assert_eq!(rt;
+        printed(heap, "15000 5\nsettle\n")?.as_str(),
+        "zero 0 tare 0\n",
+        "no samples"
+    );
+    Ok(())
 }
