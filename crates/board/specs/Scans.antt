@@ -20,15 +20,6 @@ use Rattle.board.specs.Judging.{verdict_on}
 use Rattle.board.specs.Notes.{nothing, answers}
 use Rattle.board.specs.Registers.{compares, posted, open_word}
 
--- a command word with what it is judged by: the value's bits and the channel mask
-abbrev pub judged_by : ℕ → ℕ → ℕ → Judged
-judged_by value mask word = record {
-  word = word;
-  flawed = nat_le 2048 word || nat_le 2 mask;
-  class = class_of word;
-  value = whole_of value;
-}
-
 -- the command word of a write image, with what it is judged by
 abbrev pub judged_in : Order → List ℕ → Judged
 judged_in o w = record {

@@ -36,80 +36,70 @@ fn four(strip: &[u8]) -> [u8; 4]
     }
 }
 
-// A scan on these strips.
-fn scan_into<W: Weigher>(board: &mut Board<W>, write: &[u8], read: &mut [u8]) -> Answer
-    ensures { Step W.Weigher.meaning W.Weigher.moves W.Weigher.keeps W.Weigher.patience (Call.Scan write.entry (length read.old)) result board.old.weigher board.old.inner board.new.weigher board.new.inner }
-{
-    match board.scan(write, read) {
-        Err(declined) => Answer::Declined(declined),
-        Ok(note) => Answer::Scanned {
-            write: eight(write),
-            read: eight(read),
-            note,
-            load: board.load(),
-        },
+impl<W: Weigher> Board<W> {
+    // A scan on these strips.
+    fn scan_into(&mut self, write: &[u8], read: &mut [u8]) -> Answer
+        ensures { Step W.Weigher.meaning W.Weigher.moves W.Weigher.keeps W.Weigher.patience (Call.Scan write.entry (length read.old)) result self.old.weigher self.old.inner self.new.weigher self.new.inner }
+    {
+        match self.scan(write, read) {
+            Err(declined) => Answer::Declined(declined),
+            Ok(note) => Answer::Scanned {
+                write: eight(write),
+                read: eight(read),
+                note,
+                load: self.load(),
+            },
+        }
     }
-}
 
-// An acyclic read into this strip.
-fn read_into<W: Weigher>(
-    board: &Board<W>,
-    class: u16,
-    instance: u8,
-    attribute: u8,
-    strip: &mut [u8],
-) -> Answer
-    ensures { Step W.Weigher.meaning W.Weigher.moves W.Weigher.keeps W.Weigher.patience (Call.Read class instance attribute (length strip.old)) result board.now.weigher board.now.inner board.now.weigher board.now.inner }
-{
-    match board.read(class, instance, attribute, strip) {
-        Err(declined) => Answer::Declined(declined),
-        Ok(()) => Answer::Replied(four(strip)),
+    // An acyclic read into this strip.
+    fn read_into(&self, class: u16, instance: u8, attribute: u8, strip: &mut [u8]) -> Answer
+        ensures { Step W.Weigher.meaning W.Weigher.moves W.Weigher.keeps W.Weigher.patience (Call.Read class instance attribute (length strip.old)) result self.now.weigher self.now.inner self.now.weigher self.now.inner }
+    {
+        match self.read(class, instance, attribute, strip) {
+            Err(declined) => Answer::Declined(declined),
+            Ok(()) => Answer::Replied(four(strip)),
+        }
     }
-}
 
-// Makes a call, with strips that are lent here.
-fn answer_to<W: Weigher>(board: &mut Board<W>, call: Call<'_>) -> Answer
-    ensures { Step W.Weigher.meaning W.Weigher.moves W.Weigher.keeps W.Weigher.patience call.entry result board.old.weigher board.old.inner board.new.weigher board.new.inner }
-{
-    let mut strip = [0u8; MOST];
-    match call {
-        Call::Scan { write, read } => scan_into(board, write, &mut strip[0..read.min(MOST)]),
-        Call::Read {
-            class,
-            instance,
-            attribute,
-            reply,
-        } => read_into(
-            board,
-            class,
-            instance,
-            attribute,
-            &mut strip[0..reply.min(MOST)],
-        ),
-        Call::Look => Answer::Looked(board.look()),
+    // Makes a call, with strips that are lent here.
+    fn call(&mut self, call: Call<'_>) -> Answer
+        ensures { Step W.Weigher.meaning W.Weigher.moves W.Weigher.keeps W.Weigher.patience call.entry result self.old.weigher self.old.inner self.new.weigher self.new.inner }
+    {
+        let mut strip = [0u8; MOST];
+        match call {
+            Call::Scan { write, read } => self.scan_into(write, &mut strip[0..read.min(MOST)]),
+            Call::Read {
+                class,
+                instance,
+                attribute,
+                reply,
+            } => self.read_into(class, instance, attribute, &mut strip[0..reply.min(MOST)]),
+            Call::Look => Answer::Looked(self.look()),
+        }
     }
-}
 
-// Makes a call, and enters what it was answered and what look tells then.
-fn perform<W: Weigher>(board: &mut Board<W>, call: Call<'_>) -> Entry
-    ensures step { Step W.Weigher.meaning W.Weigher.moves W.Weigher.keeps W.Weigher.patience call.entry result.answer board.old.weigher board.old.inner board.new.weigher board.new.inner }
-    ensures after { result.after ≡ look_of board.new.inner (W.Weigher.meaning board.new.weigher) }
-{
-    let answer = answer_to(board, call);
-    Entry {
-        answer,
-        after: board.look(),
+    // Makes a call, and enters what it was answered and what look tells then.
+    fn perform(&mut self, call: Call<'_>) -> Entry
+        ensures step { Step W.Weigher.meaning W.Weigher.moves W.Weigher.keeps W.Weigher.patience call.entry result.answer self.old.weigher self.old.inner self.new.weigher self.new.inner }
+        ensures after { result.after ≡ look_of self.new.inner (W.Weigher.meaning self.new.weigher) }
+    {
+        let answer = self.call(call);
+        Entry {
+            answer,
+            after: self.look(),
+        }
     }
-}
 
-// Makes the calls in order, as many as the journal has room for.
-fn play<W: Weigher>(board: &mut Board<W>, calls: &[Call<'_>], journal: &mut [Entry])
-    ensures played { Played W.Weigher.meaning W.Weigher.moves W.Weigher.keeps W.Weigher.patience board.old.weigher board.old.inner (take (length journal.old) calls.now) (take (length calls.now) journal.new) board.new.weigher board.new.inner }
-    ensures rest { drop (length calls.now) journal.new ≡ drop (length calls.now) journal.old }
-{
-    let count = calls.len().min(journal.len());
-    for i in 0..count {
-        journal[i] = perform(board, calls[i]);
+    // Makes the calls in order, as many as the journal has room for.
+    fn play(&mut self, calls: &[Call<'_>], journal: &mut [Entry])
+        ensures played { Played W.Weigher.meaning W.Weigher.moves W.Weigher.keeps W.Weigher.patience self.old.weigher self.old.inner (take (length journal.old) calls.now) (take (length calls.now) journal.new) self.new.weigher self.new.inner }
+        ensures rest { drop (length calls.now) journal.new ≡ drop (length calls.now) journal.old }
+    {
+        let count = calls.len().min(journal.len());
+        for i in 0..count {
+            journal[i] = self.perform(calls[i]);
+        }
     }
 }
 
@@ -126,7 +116,7 @@ pub fn run_into<W: Weigher + Drop>(
 {
     let mut board = Board::new(weigher, settings);
     let start = board.look();
-    play(&mut board, calls, journal);
+    board.play(calls, journal);
     start
 }
 

@@ -92,6 +92,12 @@ fn put_scan(out: &mut Vec<u8>, read: [u8; 8], note: Note) -> Result<(), AllocErr
     Ok(())
 }
 
+fn put_read(out: &mut Vec<u8>, strip: [u8; 4]) -> Result<(), AllocError>
+    ensures { OnOk result (out.new.items ≡ out.old.items ++ read_line strip) }
+{
+    put(out, &read_line(strip))
+}
+
 fn put_decline(heap: Global, out: &mut Vec<u8>, declined: Declined) -> Result<(), AllocError>
     ensures { OnOk result (out.new.items ≡ out.old.items ++ decline_line (number_of declined)) }
 {
@@ -125,7 +131,7 @@ pub fn put_answer(heap: Global, out: &mut Vec<u8>, answer: Answer) -> Result<(),
 {
     match answer {
         Answer::Scanned { read, note, .. } => put_scan(out, read, note),
-        Answer::Replied(strip) => put(out, &read_line(strip)),
+        Answer::Replied(strip) => put_read(out, strip),
         Answer::Looked(_) => Ok(()),
         Answer::Declined(declined) => put_decline(heap, out, declined),
     }

@@ -2,7 +2,7 @@
 ghost use Rattle.std.specs.Prelude.{◌≡◌, length, MatchResult};
 ghost use Rattle.board.specs.Declines.{decline_of, scan_decline};
 ghost use Rattle.board.specs.Images.{image_of};
-ghost use Rattle.board.specs.Scans.{judged_by, judged_in, paid, paid_note, judged, responded, Scanned};
+ghost use Rattle.board.specs.Scans.{judged_in, paid, paid_note, judged, responded, Scanned};
 
 use super::Board;
 use crate::block::{Due, Judged};
@@ -10,12 +10,13 @@ use crate::declined::Declined;
 use crate::list::class_of;
 use crate::note::Note;
 use weigher::{Told, Weigher};
-use wire::{MeasuringBlockWritten, whole};
+use wire::{MeasuringBlockWritten, Order, whole};
 
-// The command word of a block that was written, with what it is judged by.
-fn judged_by(written: MeasuringBlockWritten) -> Judged
-    ensures { result ≡ judged_by written.value written.mask written.command }
+// The command word of a write image, with what it is judged by.
+fn judged_in(image: [u8; 8], order: Order) -> Judged
+    ensures { result ≡ judged_in order image }
 {
+    let written = MeasuringBlockWritten::from_image(image, order);
     Judged {
         word: written.command,
         flawed: written.command >= 2048 || written.mask >= 2,
@@ -26,7 +27,7 @@ fn judged_by(written: MeasuringBlockWritten) -> Judged
 
 impl<W: Weigher> Board<W> {
     // Posts a response that is due.
-    fn post_due(&mut self, due: Due) -> Note
+    fn pay(&mut self, due: Due) -> Note
         ensures note { result ≡ paid_note due self.old.inner }
         ensures inner { self.new.inner ≡ paid due self.old.inner }
         ensures weigher { self.new.weigher ≡ self.old.weigher }
@@ -47,13 +48,15 @@ impl<W: Weigher> Board<W> {
         ensures work { (self.new.inner, result, W.Weigher.meaning self.new.weigher) ≡ judged W.Weigher.patience self.old.inner (W.Weigher.meaning self.old.weigher) (judged_in self.old.inner.settings.order image) }
         ensures sensor { W.Weigher.keeps self.old.weigher self.new.weigher }
     {
-        let written = MeasuringBlockWritten::from_image(image, self.inner.settings.order);
+        let order = self.inner.settings.order;
+        let written = MeasuringBlockWritten::from_image(image, order);
         if written.command == self.inner.block.compared {
             return Note::nothing();
         }
+        let word = judged_in(image, order);
         let capacity = self.weigher.look().capacity;
-        let verdict = self.inner.block.judge(judged_by(written), capacity);
-        self.act(written.command, verdict)
+        let verdict = self.inner.block.judge(word, capacity);
+        self.act(word.word, verdict)
     }
 
     // Posts what is due after a tend that told this, or else judges the command word.
@@ -62,7 +65,7 @@ impl<W: Weigher> Board<W> {
         ensures sensor { W.Weigher.keeps self.old.weigher self.new.weigher }
     {
         match self.inner.block.due(told, self.gross()) {
-            Some(due) => self.post_due(due),
+            Some(due) => self.pay(due),
             None => self.judge(image),
         }
     }

@@ -13,7 +13,7 @@ returns g c =
     let made = c.new-board.ensures in
     let calls = take (length c.args.journal.now) c.args.calls.now in
     let es = take (length c.args.calls.now) c.play.new.journal in
-    let last = c.play.new.board in
+    let last = c.play.new.self in
     record {
       promise = promise m.meaning m.moves m.keeps m.patience g.met.W.Weigher.patient c.args.settings c.args.weigher calls c.look-start.result es (record {
         first = new.weigher;

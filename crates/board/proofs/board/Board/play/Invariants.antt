@@ -1,10 +1,10 @@
 use Rattle.std.proofs.Common.{◌≡◌, ℕ, ◌≤◌, take, drop}
 use Rattle.board.specs.Journals.{Played}
-use Rattle.board.proofs.runs.play.Given as goal
+use Rattle.board.proofs.board.Board.play.Given as goal
 
 -- the entries so far are those of the calls so far, and the rest of the journal is as it was
 abbrev pub invariant-loop-i : goal.invariant-loop-i
 invariant-loop-i g l =
     let m = g.W.Weigher in
-    Played m.meaning m.moves m.keeps m.patience l.initial.board.weigher l.initial.board.inner (take l.i l.calls) (take l.i l.journal) l.board.weigher l.board.inner
+    Played m.meaning m.moves m.keeps m.patience l.initial.self.weigher l.initial.self.inner (take l.i l.calls) (take l.i l.journal) l.self.weigher l.self.inner
     × ((k : ℕ) → l.i ≤ k → drop k l.journal ≡ drop k l.initial.journal)
