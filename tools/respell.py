@@ -11,7 +11,6 @@ import os
 import re
 import sys
 
-WORD = r"[^\s(){}\[\],;:.|«»\"λ∷×→≡↦]+"
 # names that would fall together with another; a lemma that would have its function's name gets _lem
 CHOSEN = {
     "rampMoves": "RampMoved",
@@ -27,7 +26,6 @@ CHOSEN = {
 TOKEN = re.compile(r"(?<![\w'\-])[A-Za-z][\w'\-]*(?![\w'\-])")
 DECLARED = re.compile(r"^(\s*)((?:abbrev |unfoldable |pub |opaque )*)((?:[^\W\d][\w'\-]*)(?: [^\W\d][\w'\-]*)*) : (.*)$")
 HEAD = re.compile(r"^\s*(?:pub )?(record|data) ([^\s:{(]+)")
-USE = re.compile(r"(?:ghost )?use ([^\s{;]+?)(?:\.\{([^}]*)\}|\s+as\b.*)?;?$")
 
 
 def texts(root, ends):
