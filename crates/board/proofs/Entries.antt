@@ -3,12 +3,14 @@ use Rattle.std.proofs.Common.{◌≡◌, ℕ, ◌+◌, ◌<◌, ◌≤◌, ◌�
 use Rattle.std.specs.Option.{option_to_list}
 use Rattle.weigher.specs.declared.answers.Told.{Told}
 use Rattle.weigher.specs.declared.orders.Standing.{Standing}
+use Rattle.weigher.specs.Kind.{Kind}
 use Rattle.weigher.specs.Scale.{Scale}
 use Rattle.weigher.specs.Rules.{worked, sensed}
 use Rattle.wire.specs.Blocks.{value_in}
 use Rattle.wire.specs.Floats.{whole_of}
 use Rattle.wire.proofs.Arrangements.{image_laws}
 use Rattle.board.specs.declared.block.State.{State}
+use Rattle.board.specs.declared.board.Board.{Board}
 use Rattle.board.specs.declared.inner.Inner.{Inner}
 use Rattle.board.specs.declared.journal.Answer.{Answer}
 use Rattle.board.specs.declared.journal.Answer.TheVariants.{Scanned, Replied, Looked, Declined}
@@ -28,12 +30,6 @@ use Rattle.board.proofs.Invariant.{Inv, Kept, Within, SomePosted}
 use Rattle.board.proofs.Rows.{listed}
 use Rattle.board.proofs.Scan.{scan_keeps}
 
--- what an entry with the answer a keeps, from the board i on the scale s to the board i' on the scale s'
-pub record EntryKept (p : ℕ) (t : Settings) (b : Book) (a : Answer) (i : Inner) (s : Scale) (i' : Inner) (s' : Scale) : Type 0 where
-  pub inv : Inv p t i'.settings i'.block i'.deviation s' (entered t.order b a)
-  pub account : option_to_list (open_word i.block.state) ++ taken_by a ≡ closed_by a ++ option_to_list (open_word i'.block.state)
-  pub progress : (k : ℕ) → Within (scan_of a + k) i.block.state s.standing → ((r : ℕ) × Posts a r) ⊎ (Within k i'.block.state s'.standing × (open_word i'.block.state ≡ open_word i.block.state))
-
 -- the response that an image shows is the one in the registers
 response_shown : (i : Inner) (s : Scale) (t : Settings) → i.settings ≡ t → i.block.response < 65536 → response_in t.order (image_of i s) ≡ i.block.response
 response_shown i s t same fits =
@@ -51,55 +47,77 @@ posted_some : (n : Option ℕ) → SomePosted n → (r : ℕ) × (n ≡ Some r)
 posted_some None h = absurd h
 posted_some (Some r) h = (r, refl)
 
-module _ {W : Type 0} (meaning : W → Scale) (moves keeps : W → W → Type 0) (p : ℕ) (patient : 1 ≤ p) (t : Settings) where
-  -- an answered scan keeps what its rules keep
-  scan_kept : (w : W) (i : Inner) (b : Book) (image : List ℕ) (w' : W) (i' : Inner) (n : Note) → Inv p t i.settings i.block i.deviation (meaning w) b → scans.Scanned meaning moves keeps p w i image w' i' n → Kept p t (whole_of (value_in i.settings.order image)) b i.block.state (meaning w).standing (i', n, meaning w')
-  unfolding answered
-  scan_kept w i b image w' i' n inv sc =
-      let x : Scale = sensed (meaning w) (meaning sc.tended) in
-      let j = judged_in i.settings.order image in
-      let K : Inner × Note × Scale → Type 0 = Kept p t j.value b i.block.state (meaning w).standing in
-      let found : Inv p t i.settings i.block i.deviation x b = record { tied = inv.tied; zero = inv.zero; tare = inv.tare; deviation = inv.deviation; shown = inv.shown; fits = inv.fits; settings = inv.settings } in
-      let worked-on : K (responded p i (worked x).0 (worked x).1 j) = scan_keeps p patient t i x b j (listed j.word) found in
-      let told : K (responded p i sc.told (meaning sc.tended) j) = subst (λ (y : Told × Scale). K (responded p i y.0 y.1 j)) (sym sc.work) worked-on in
-      subst K (sym sc.rules) (beaten_keeps (responded p i sc.told (meaning sc.tended) j) told)
+module _ {W : Type 0} (k : Kind W) (patient : 1 ≤ k.patience) (t : Settings) where
+  -- the scale below a board, and the word that is open on it
+  abbrev pub scale_below : Board W → Scale
+  scale_below b = k.meaning b.weigher
 
-  scan_entry : (w : W) (i : Inner) (b : Book) (image read : List ℕ) (n : Note) (load : ℤ) (w' : W) (i' : Inner) → Inv p t i.settings i.block i.deviation (meaning w) b → scans.Scanned meaning moves keeps p w i image w' i' n → read ≡ image_of i' (meaning w') → load ≡ (meaning w').load → EntryKept p t b (Scanned image read n load) i (meaning w) i' (meaning w')
-  scan_entry w i b image read n load w' i' inv sc shows weighs =
-      let k = scan_kept w i b image w' i' n inv sc in
-      let r : response_in t.order read ≡ i'.block.response = ap (response_in t.order) shows ∙ response_shown i' (meaning w') t k.inv.settings k.inv.fits in
-      let v : whole_of (value_in t.order image) ≡ whole_of (value_in i.settings.order image) = ap (λ (y : Settings). whole_of (value_in y.order image)) (sym inv.settings) in
-      let I : Book → Type 0 = Inv p t i'.settings i'.block i'.deviation (meaning w') in
-      let one = subst (λ (y : ℤ). I (noted i'.block.response (whole_of (value_in i.settings.order image)) n y b)) (sym weighs) k.inv in
-      let two = subst (λ (y : Option ℤ). I (noted i'.block.response y n load b)) (sym v) one in
+  abbrev pub word_open : Board W → Option ℕ
+  word_open b = open_word b.inner.block.state
+
+  -- the invariant of a board, with this book
+  abbrev pub Holds : Board W → Book → Type 0
+  Holds b book = Inv k.patience t b.inner.settings b.inner.block b.inner.deviation (scale_below b) book
+
+  -- the command that is open on a board posts within n answered scans
+  abbrev pub PostsWithin : ℕ → Board W → Type 0
+  PostsWithin n b = Within n b.inner.block.state (scale_below b).standing
+
+  -- what an entry with the answer a keeps, from the board before it to the board after it
+  pub record EntryKept (book : Book) (a : Answer) (before after : Board W) : Type 0 where
+    pub inv : Holds after (entered t.order book a)
+    pub account : option_to_list (word_open before) ++ taken_by a ≡ closed_by a ++ option_to_list (word_open after)
+    pub progress : (n : ℕ) → PostsWithin (scan_of a + n) before → ((r : ℕ) × Posts a r) ⊎ (PostsWithin n after × (word_open after ≡ word_open before))
+
+  -- an answered scan keeps what its rules keep
+  scan_kept : (b : Board W) (book : Book) (image : List ℕ) (after : Board W) (n : Note) → Holds b book → scans.Scanned k b image after n → Kept k.patience t (whole_of (value_in b.inner.settings.order image)) book b.inner.block.state (scale_below b).standing (after.inner, n, scale_below after)
+  unfolding answered
+  scan_kept b book image after n inv sc =
+      let i = b.inner in
+      let x : Scale = sensed (scale_below b) (k.meaning sc.tended) in
+      let j = judged_in i.settings.order image in
+      let K : Inner × Note × Scale → Type 0 = Kept k.patience t j.value book i.block.state (scale_below b).standing in
+      let found : Inv k.patience t i.settings i.block i.deviation x book = record { tied = inv.tied; zero = inv.zero; tare = inv.tare; deviation = inv.deviation; shown = inv.shown; fits = inv.fits; settings = inv.settings } in
+      let worked-on : K (responded k.patience i (worked x).0 (worked x).1 j) = scan_keeps k.patience patient t i x book j (listed j.word) found in
+      let told : K (responded k.patience i sc.told (k.meaning sc.tended) j) = subst (λ (y : Told × Scale). K (responded k.patience i y.0 y.1 j)) (sym sc.work) worked-on in
+      subst K (sym sc.rules) (beaten_keeps (responded k.patience i sc.told (k.meaning sc.tended) j) told)
+
+  scan_entry : (b : Board W) (book : Book) (image read : List ℕ) (n : Note) (load : ℤ) (after : Board W) → Holds b book → scans.Scanned k b image after n → read ≡ image_of after.inner (scale_below after) → load ≡ (scale_below after).load → EntryKept book (Scanned image read n load) b after
+  scan_entry b book image read n load after inv sc shows weighs =
+      let kept = scan_kept b book image after n inv sc in
+      let i' = after.inner in
+      let r : response_in t.order read ≡ i'.block.response = ap (response_in t.order) shows ∙ response_shown i' (scale_below after) t kept.inv.settings kept.inv.fits in
+      let v : whole_of (value_in t.order image) ≡ whole_of (value_in b.inner.settings.order image) = ap (λ (y : Settings). whole_of (value_in y.order image)) (sym inv.settings) in
+      let I : Book → Type 0 = Holds after in
+      let one = subst (λ (y : ℤ). I (noted i'.block.response (whole_of (value_in b.inner.settings.order image)) n y book)) (sym weighs) kept.inv in
+      let two = subst (λ (y : Option ℤ). I (noted i'.block.response y n load book)) (sym v) one in
       record {
-        inv = subst (λ (y : ℕ). I (noted y (whole_of (value_in t.order image)) n load b)) (sym r) two;
-        account = k.account;
-        progress = λ m h. ⊎_map (posted_some n.posted) (k.progress m (subst (λ (y : ℕ). Within y i.block.state (meaning w).standing) (one-add m) h));
+        inv = subst (λ (y : ℕ). I (noted y (whole_of (value_in t.order image)) n load book)) (sym r) two;
+        account = kept.account;
+        progress = λ m h. ⊎_map (posted_some n.posted) (kept.progress m (subst (λ (y : ℕ). PostsWithin y b) (one-add m) h));
       }
 
   -- a call that is no answered scan changes nothing
-  same_entry : (w : W) (i : Inner) (b : Book) (a : Answer) (w' : W) (i' : Inner) → Inv p t i.settings i.block i.deviation (meaning w) b → w' ≡ w → i' ≡ i → entered t.order b a ≡ b → taken_by a ≡ [] → closed_by a ≡ [] → scan_of a ≡ 0 → EntryKept p t b a i (meaning w) i' (meaning w')
-  same_entry w i b a w' i' inv same alike book none-taken none-closed no-scan =
-      let E : W → Inner → Type 0 = λ x y. EntryKept p t b a i (meaning w) y (meaning x) in
-      let here : E w i = record {
-        inv = subst (Inv p t i.settings i.block i.deviation (meaning w)) (sym book) inv;
-        account = ap (λ (l : List ℕ). option_to_list (open_word i.block.state) ++ l) none-taken ∙ append-nil (option_to_list (open_word i.block.state)) ∙ ap (λ (l : List ℕ). l ++ option_to_list (open_word i.block.state)) (sym none-closed);
-        progress = λ m h. inr (subst (λ (y : ℕ). Within y i.block.state (meaning w).standing) (ap (λ (y : ℕ). y + m) no-scan ∙ zero-add m) h, refl);
+  same_entry : (b : Board W) (book : Book) (a : Answer) (after : Board W) → Holds b book → after ≡ b → entered t.order book a ≡ book → taken_by a ≡ [] → closed_by a ≡ [] → scan_of a ≡ 0 → EntryKept book a b after
+  same_entry b book a after inv same as-before none-taken none-closed no-scan =
+      let here : EntryKept book a b b = record {
+        inv = subst (Holds b) (sym as-before) inv;
+        account = ap (λ (l : List ℕ). option_to_list (word_open b) ++ l) none-taken ∙ append-nil (option_to_list (word_open b)) ∙ ap (λ (l : List ℕ). l ++ option_to_list (word_open b)) (sym none-closed);
+        progress = λ m h. inr (subst (λ (y : ℕ). PostsWithin y b) (ap (λ (y : ℕ). y + m) no-scan ∙ zero-add m) h, refl);
       } in
-      subst (λ (x : W). E x i') (sym same) (subst (λ (y : Inner). E w y) (sym alike) here)
+      subst (EntryKept book a b) (sym same) here
 
   -- every entry that the rules give keeps what is kept
-  pub entry_keeps : (call : Call) (a : Answer) (w : W) (i : Inner) (b : Book) (w' : W) (i' : Inner) → Inv p t i.settings i.block i.deviation (meaning w) b → Step meaning moves keeps p call a w i w' i' → EntryKept p t b a i (meaning w) i' (meaning w')
-  entry_keeps (Scan write n) (Scanned image read note load) w i b w' i' inv (fits, is, sc, shows, weighs) = scan_entry w i b image read note load w' i' inv sc shows weighs
-  entry_keeps (Scan write n) (Replied strip) w i b w' i' inv st = absurd st
-  entry_keeps (Scan write n) (Looked l) w i b w' i' inv st = absurd st
-  entry_keeps (Scan write n) (Declined x) w i b w' i' inv (why, same) = same_entry w i b (Declined x) w' i' inv same.0 same.1 refl refl refl refl
-  entry_keeps (Read k n a m) (Scanned image read note load) w i b w' i' inv st = absurd st
-  entry_keeps (Read k n a m) (Replied strip) w i b w' i' inv (why, how, same) = same_entry w i b (Replied strip) w' i' inv same.0 same.1 refl refl refl refl
-  entry_keeps (Read k n a m) (Looked l) w i b w' i' inv st = absurd st
-  entry_keeps (Read k n a m) (Declined x) w i b w' i' inv (why, same) = same_entry w i b (Declined x) w' i' inv same.0 same.1 refl refl refl refl
-  entry_keeps Look (Scanned image read note load) w i b w' i' inv st = absurd st
-  entry_keeps Look (Replied strip) w i b w' i' inv st = absurd st
-  entry_keeps Look (Looked l) w i b w' i' inv (what, same) = same_entry w i b (Looked l) w' i' inv same.0 same.1 refl refl refl refl
-  entry_keeps Look (Declined x) w i b w' i' inv st = absurd st
+  pub entry_keeps : (call : Call) (a : Answer) (b : Board W) (book : Book) (after : Board W) → Holds b book → Step k call a b after → EntryKept book a b after
+  entry_keeps (Scan write n) (Scanned image read note load) b book after inv (fits, is, sc, shows, weighs) = scan_entry b book image read note load after inv sc shows weighs
+  entry_keeps (Scan write n) (Replied strip) b book after inv st = absurd st
+  entry_keeps (Scan write n) (Looked l) b book after inv st = absurd st
+  entry_keeps (Scan write n) (Declined x) b book after inv (why, same) = same_entry b book (Declined x) after inv same refl refl refl refl
+  entry_keeps (Read c m) (Scanned image read note load) b book after inv st = absurd st
+  entry_keeps (Read c m) (Replied strip) b book after inv (why, how, same) = same_entry b book (Replied strip) after inv same refl refl refl refl
+  entry_keeps (Read c m) (Looked l) b book after inv st = absurd st
+  entry_keeps (Read c m) (Declined x) b book after inv (why, same) = same_entry b book (Declined x) after inv same refl refl refl refl
+  entry_keeps Look (Scanned image read note load) b book after inv st = absurd st
+  entry_keeps Look (Replied strip) b book after inv st = absurd st
+  entry_keeps Look (Looked l) b book after inv (what, same) = same_entry b book (Looked l) after inv same refl refl refl refl
+  entry_keeps Look (Declined x) b book after inv st = absurd st

@@ -1,4 +1,3 @@
-pub mod Lookups
 pub mod Plays
 pub mod Lent
 pub mod Invariant

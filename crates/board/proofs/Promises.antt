@@ -4,6 +4,7 @@ use Rattle.std.specs.Option.{option_to_list}
 use Rattle.std.proofs.lemmas.Bool.{cond_both}
 use Rattle.weigher.specs.declared.orders.Order.{Order as WeigherOrder}
 use Rattle.weigher.specs.declared.orders.Standing.{Standing}
+use Rattle.weigher.specs.Kind.{Kind}
 use Rattle.weigher.specs.Scale.{Scale}
 use Rattle.weigher.specs.Rules.{dropped}
 use Rattle.wire.specs.declared.order.Order.{Order}
@@ -11,6 +12,7 @@ use Rattle.wire.specs.Blocks.{value_in}
 use Rattle.wire.specs.Floats.{whole_of}
 use Rattle.board.specs.declared.block.State.{State}
 use Rattle.board.specs.declared.block.State.TheVariants.{Ready, Working, FirstStep, FirstFailed, Between, SecondStep, SecondFailed, Cancelling}
+use Rattle.board.specs.declared.board.Board.{Board}
 use Rattle.board.specs.declared.inner.Inner.{Inner}
 use Rattle.board.specs.declared.journal.Answer.{Answer}
 use Rattle.board.specs.declared.journal.Answer.TheVariants.{Scanned, Replied, Looked, Declined}
@@ -26,7 +28,7 @@ use Rattle.board.specs.Journals.{Played, done, next}
 use Rattle.board.specs.Progress.{scan_of, answered_scans, shown_by, shown_after, Posts, Progress}
 use Rattle.board.specs.Promise.{Ruled, Promise}
 use Rattle.board.specs.Registers.{open_word}
-use Rattle.board.proofs.Entries.{entry_keeps}
+use Rattle.board.proofs.Entries.{word_open, Holds, PostsWithin, entry_keeps}
 use Rattle.board.proofs.Invariant.{NoOrder, Tied, Inv, Within}
 
 -- the book remembers the response that the last answered scan showed
@@ -107,53 +109,58 @@ record Found (l : Look) (part : List Entry) (word : Option ℕ) : Type 0 where
   posts : Posts answering.answer response
   still_open : (look_after l before).«open» ≡ word
 
-module _ {W : Type 0} (meaning : W → Scale) (moves keeps : W → W → Type 0) (p : ℕ) (patient : 1 ≤ p) (t : Settings) where
-  abbrev Plays : W → Inner → List Call → List Entry → W → Inner → Type 0
-  Plays = Played meaning moves keeps p
+module _ {W : Type 0} (kind : Kind W) (patient : 1 ≤ kind.patience) (t : Settings) where
+  abbrev Keeps : Board W → Book → Type 0
+  Keeps = Holds kind patient t
 
-  abbrev Holds : Inner → W → Book → Type 0
-  Holds i w b = Inv p t i.settings i.block i.deviation (meaning w) b
+  abbrev word : Board W → Option ℕ
+  word = word_open kind patient t
+
+  abbrev seen : Board W → Look
+  seen b = look_of b.inner (kind.meaning b.weigher)
+
+  abbrev Posting : ℕ → Board W → Type 0
+  Posting = PostsWithin kind patient t
 
   -- a run keeps the invariant, with the book kept over its entries
-  holds_after : {w : W} {i : Inner} {calls : List Call} {es : List Entry} {w₂ : W} {i₂ : Inner} (b : Book) → Plays w i calls es w₂ i₂ → Holds i w b → Holds i₂ w₂ (kept t.order b es)
-  holds_after b (done w i) inv = inv
-  holds_after b (next call calls e es w i w₁ i₁ w₂ i₂ st after rest) inv =
-      holds_after (entered t.order b e.answer) rest (entry_keeps meaning moves keeps p patient t call e.answer w i b w₁ i₁ inv st).inv
+  holds_after : {b b₂ : Board W} {calls : List Call} {es : List Entry} (book : Book) → Played kind b calls es b₂ → Keeps b book → Keeps b₂ (kept t.order book es)
+  holds_after book (done b) inv = inv
+  holds_after book (next call calls e es b b₁ b₂ st after rest) inv = holds_after (entered t.order book e.answer) rest (entry_keeps kind patient t call e.answer b book b₁ inv st).inv
 
   -- the words taken are the words closed and the open one, after the one that was open before
-  account_after : {w : W} {i : Inner} {calls : List Call} {es : List Entry} {w₂ : W} {i₂ : Inner} (b : Book) → Plays w i calls es w₂ i₂ → Holds i w b → option_to_list (open_word i.block.state) ++ taken es ≡ closed es ++ option_to_list (open_word i₂.block.state)
-  account_after b (done w i) inv = append-nil (option_to_list (open_word i.block.state))
-  account_after b (next call calls e es w i w₁ i₁ w₂ i₂ st after rest) inv =
-      let k = entry_keeps meaning moves keeps p patient t call e.answer w i b w₁ i₁ inv st in
-      let o = option_to_list (open_word i.block.state) in
-      let o₁ = option_to_list (open_word i₁.block.state) in
-      let o₂ = option_to_list (open_word i₂.block.state) in
-      let more : o₁ ++ taken es ≡ closed es ++ o₂ = account_after (entered t.order b e.answer) rest k.inv in
+  account_after : {b b₂ : Board W} {calls : List Call} {es : List Entry} (book : Book) → Played kind b calls es b₂ → Keeps b book → option_to_list (word b) ++ taken es ≡ closed es ++ option_to_list (word b₂)
+  account_after book (done b) inv = append-nil (option_to_list (word b))
+  account_after book (next call calls e es b b₁ b₂ st after rest) inv =
+      let k = entry_keeps kind patient t call e.answer b book b₁ inv st in
+      let o = option_to_list (word b) in
+      let o₁ = option_to_list (word b₁) in
+      let o₂ = option_to_list (word b₂) in
+      let more : o₁ ++ taken es ≡ closed es ++ o₂ = account_after (entered t.order book e.answer) rest k.inv in
       sym (append_assoc o (taken_by e.answer) (taken es))
       ∙ ap (λ (l : List ℕ). l ++ taken es) k.account
       ∙ append_assoc (closed_by e.answer) o₁ (taken es)
       ∙ ap (λ (l : List ℕ). closed_by e.answer ++ l) more
       ∙ sym (append_assoc (closed_by e.answer) (closed es) o₂)
 
-  look_after_lem : {w : W} {i : Inner} {calls : List Call} {es : List Entry} {w₂ : W} {i₂ : Inner} → Plays w i calls es w₂ i₂ → look_after (look_of i (meaning w)) es ≡ look_of i₂ (meaning w₂)
-  look_after_lem (done w i) = refl
-  look_after_lem (next call calls e es w i w₁ i₁ w₂ i₂ st after rest) = ap (λ (l : Look). look_after l es) after ∙ look_after_lem rest
+  look_after_lem : {b b₂ : Board W} {calls : List Call} {es : List Entry} → Played kind b calls es b₂ → look_after (seen b) es ≡ seen b₂
+  look_after_lem (done b) = refl
+  look_after_lem (next call calls e es b b₁ b₂ st after rest) = ap (λ (l : Look). look_after l es) after ∙ look_after_lem rest
 
   -- within as many answered scans as the command has left there is a response to it
-  found_within : {w : W} {i : Inner} {calls : List Call} {es : List Entry} {w₂ : W} {i₂ : Inner} (b : Book) (k : ℕ) → Plays w i calls es w₂ i₂ → Holds i w b → Within k i.block.state (meaning w).standing → k ≤ answered_scans es → Found (look_of i (meaning w)) es (open_word i.block.state)
-  found_within b k (done w i) inv h few =
-      let none : k ≡ 0 = omega arith in
-      absurd (positive p i.block.state i.block.response (meaning w).standing b.empty b.value inv.tied (subst (λ (x : ℕ). Within x i.block.state (meaning w).standing) none h))
-  found_within b k (next call calls e es w i w₁ i₁ w₂ i₂ st after rest) inv h few =
-      let kp = entry_keeps meaning moves keeps p patient t call e.answer w i b w₁ i₁ inv st in
-      let some : k ≡ 0 → ⊥ = λ none. positive p i.block.state i.block.response (meaning w).standing b.empty b.value inv.tied (subst (λ (x : ℕ). Within x i.block.state (meaning w).standing) none h) in
-      let low : scan_of e.answer ≤ k = counted e.answer k some in
-      let k' : ℕ = k - scan_of e.answer in
-      let split : k ≡ scan_of e.answer + k' = omega arith in
-      let less : k' ≤ answered_scans es = omega arith in
-      nearer (kp.progress k' (subst (λ (x : ℕ). Within x i.block.state (meaning w).standing) split h)) (λ h'. found_within (entered t.order b e.answer) k' rest kp.inv h' less)
+  found_within : {b b₂ : Board W} {calls : List Call} {es : List Entry} (book : Book) (n : ℕ) → Played kind b calls es b₂ → Keeps b book → Posting n b → n ≤ answered_scans es → Found (seen b) es (word b)
+  found_within book n (done b) inv h few =
+      let none : n ≡ 0 = omega arith in
+      absurd (positive kind.patience b.inner.block.state b.inner.block.response (kind.meaning b.weigher).standing book.empty book.value inv.tied (subst (λ (x : ℕ). Posting x b) none h))
+  found_within book n (next call calls e es b b₁ b₂ st after rest) inv h few =
+      let kp = entry_keeps kind patient t call e.answer b book b₁ inv st in
+      let some : n ≡ 0 → ⊥ = λ none. positive kind.patience b.inner.block.state b.inner.block.response (kind.meaning b.weigher).standing book.empty book.value inv.tied (subst (λ (x : ℕ). Posting x b) none h) in
+      let low : scan_of e.answer ≤ n = counted e.answer n some in
+      let n' : ℕ = n - scan_of e.answer in
+      let split : n ≡ scan_of e.answer + n' = omega arith in
+      let less : n' ≤ answered_scans es = omega arith in
+      nearer (kp.progress n' (subst (λ (x : ℕ). Posting x b) split h)) (λ h'. found_within (entered t.order book e.answer) n' rest kp.inv h' less)
     where
-      nearer : ((r : ℕ) × Posts e.answer r) ⊎ (Within (k - scan_of e.answer) i₁.block.state (meaning w₁).standing × (open_word i₁.block.state ≡ open_word i.block.state)) → (Within (k - scan_of e.answer) i₁.block.state (meaning w₁).standing → Found (look_of i₁ (meaning w₁)) es (open_word i₁.block.state)) → Found (look_of i (meaning w)) (e ∷ es) (open_word i.block.state)
+      nearer : ((r : ℕ) × Posts e.answer r) ⊎ (Posting (n - scan_of e.answer) b₁ × (word b₁ ≡ word b)) → (Posting (n - scan_of e.answer) b₁ → Found (seen b₁) es (word b₁)) → Found (seen b) (e ∷ es) (word b)
       nearer (inl (r, posts)) later = record { before = []; answering = e; later = es; cut = refl; response = r; posts = posts; still_open = refl }
       nearer (inr (h', same)) later =
           let f = later h' in
@@ -168,62 +175,64 @@ module _ {W : Type 0} (meaning : W → Scale) (moves keeps : W → W → Type 0)
           }
 
   -- a journal cut in two
-  record Halves (w : W) (i : Inner) (front rest : List Entry) (w₂ : W) (i₂ : Inner) : Type 0 where
+  record Halves (b : Board W) (front rest : List Entry) (b₂ : Board W) : Type 0 where
     calls₁ : List Call
     calls₂ : List Call
-    w₁ : W
-    i₁ : Inner
-    first : Plays w i calls₁ front w₁ i₁
-    second : Plays w₁ i₁ calls₂ rest w₂ i₂
+    between : Board W
+    first : Played kind b calls₁ front between
+    second : Played kind between calls₂ rest b₂
 
-  halves : (front rest : List Entry) {w : W} {i : Inner} {calls : List Call} {w₂ : W} {i₂ : Inner} → Plays w i calls (front ++ rest) w₂ i₂ → Halves w i front rest w₂ i₂
-  halves [] rest {w} {i} {calls} played = record { calls₁ = []; calls₂ = calls; w₁ = w; i₁ = i; first = done w i; second = played }
-  halves (x ∷ front) rest (next call calls e es w i w₁ i₁ w₂ i₂ st after more) =
+  halves : (front rest : List Entry) {b b₂ : Board W} {calls : List Call} → Played kind b calls (front ++ rest) b₂ → Halves b front rest b₂
+  halves [] rest {b} {b₂} {calls} played = record { calls₁ = []; calls₂ = calls; between = b; first = done b; second = played }
+  halves (x ∷ front) rest (next call calls e es b b₁ b₂ st after more) =
       let h = halves front rest more in
       record {
         calls₁ = call ∷ h.calls₁;
         calls₂ = h.calls₂;
-        w₁ = h.w₁;
-        i₁ = h.i₁;
-        first = next call h.calls₁ e front w i w₁ i₁ h.w₁ h.i₁ st after h.first;
+        between = h.between;
+        first = next call h.calls₁ e front b b₁ h.between st after h.first;
         second = h.second;
       }
 
-  -- the invariant holds of a new board on a weigher whose order was dropped
-  new_holds : (start : Look) (weigher first : W) → meaning first ≡ (dropped (meaning weigher)).1 → start ≡ look_of (new_inner t) (meaning first) → Holds (new_inner t) first (opened start)
-  new_holds start weigher first fresh told =
-      let s = meaning weigher in
-      let none : NoOrder (meaning first).standing = subst (λ (x : Scale). NoOrder x.standing) (sym fresh) (none_stands s.load s.zero s.tare s.still s.fault s.standing s.capacity s.knows) in
-      record {
-        tied = (none, λ h. omega arith);
-        zero = sym (ap (λ (l : Look). l.zero) told);
-        tare = sym (ap (λ (l : Look). l.tare) told);
-        deviation = refl;
-        shown = refl;
-        fits = omega arith;
-        settings = refl;
-      }
-
-  module _ (weigher : W) (calls : List Call) (start : Look) (journal : List Entry) (r : Ruled meaning moves keeps p t weigher calls start journal) where
-    begun : Holds (new_inner t) r.first (opened start)
-    begun = new_holds start weigher r.first r.fresh r.told
+  module _ (weigher : W) (calls : List Call) (start : Look) (journal : List Entry) (r : Ruled kind t weigher calls start journal) where
+    -- the invariant holds of a new board on a weigher whose order was dropped
+    new_holds : Keeps r.first (opened start)
+    new_holds =
+        let s = kind.meaning weigher in
+        let scale = kind.meaning r.first.weigher in
+        let none : NoOrder scale.standing = subst (λ (x : Scale). NoOrder x.standing) (sym r.fresh) (none_stands s.load s.zero s.tare s.still s.fault s.standing s.capacity s.knows) in
+        let of_new : Inv kind.patience t (new_inner t).settings (new_inner t).block (new_inner t).deviation scale (opened start) = record {
+          tied = (none, λ h. omega arith);
+          zero = sym (ap (λ (l : Look). l.zero) r.told);
+          tare = sym (ap (λ (l : Look). l.tare) r.told);
+          deviation = refl;
+          shown = refl;
+          fits = omega arith;
+          settings = refl;
+        } in
+        subst (λ (i : Inner). Inv kind.patience t i.settings i.block i.deviation scale (opened start)) (sym r.new) of_new
 
     -- the run up to a moment
-    front_of : (front rest : List Entry) → journal ≡ front ++ rest → Halves r.first (new_inner t) front rest r.last r.board
-    front_of front rest is = halves front rest (subst (λ (x : List Entry). Plays r.first (new_inner t) calls x r.last r.board) is r.played)
+    front_of : (front rest : List Entry) → journal ≡ front ++ rest → Halves r.first front rest r.last
+    front_of front rest is = halves front rest (subst (λ (x : List Entry). Played kind r.first calls x r.last) is r.played)
 
-    looks : (front rest : List Entry) (is : journal ≡ front ++ rest) → look_after start front ≡ look_of (front_of front rest is).i₁ (meaning (front_of front rest is).w₁)
+    looks : (front rest : List Entry) (is : journal ≡ front ++ rest) → look_after start front ≡ seen (front_of front rest is).between
     looks front rest is = ap (λ (l : Look). look_after l front) r.told ∙ look_after_lem (front_of front rest is).first
+
+    nothing_open : word r.first ≡ None
+    nothing_open = ap (λ (i : Inner). open_word i.block.state) r.new
 
     account : Account start journal
     account front rest is =
         let h = front_of front rest is in
-        account_after (opened start) h.first begun ∙ ap (λ (l : Look). closed front ++ option_to_list l.«open») (sym (looks front rest is))
+        ap (λ (o : Option ℕ). option_to_list o ++ taken front) (sym nothing_open)
+        ∙ account_after (opened start) h.first new_holds
+        ∙ ap (λ (l : Look). closed front ++ option_to_list l.«open») (sym (looks front rest is))
 
     book : BookKept t.order start journal
     book front rest is =
         let h = front_of front rest is in
-        let inv = holds_after (opened start) h.first begun in
+        let inv = holds_after (opened start) h.first new_holds in
         let l = looks front rest is in
         record {
           zero = ap (λ (x : Look). x.zero) l ∙ inv.zero;
@@ -231,17 +240,18 @@ module _ {W : Type 0} (meaning : W → Scale) (moves keeps : W → W → Type 0)
           deviation = ap (λ (x : Look). x.deviation) l ∙ inv.deviation;
         }
 
-    progress : Progress t.order p start journal
-    progress front part rest word is opens n45 n20 enough =
+    progress : Progress t.order kind.patience start journal
+    progress front part rest asked is opens n45 n20 enough =
         let h = front_of front (part ++ rest) is in
         let b = kept t.order (opened start) front in
-        let inv = holds_after (opened start) h.first begun in
+        let inv = holds_after (opened start) h.first new_holds in
         let g = halves part rest h.second in
         let l = looks front (part ++ rest) is in
-        let shows : h.i₁.block.response ≡ shown_after t.order 0 front = inv.shown ∙ kept_shown t.order front (opened start) in
-        let is_open : open_word h.i₁.block.state ≡ Some word = sym (ap (λ (x : Look). x.«open») l) ∙ opens in
-        let near = within p patient h.i₁.block.state h.i₁.block.response (meaning h.w₁).standing b.empty b.value word inv.tied is_open (λ x. n45 (sym shows ∙ x)) (λ x. n20 (sym shows ∙ x)) in
-        let f = found_within b p g.first inv near enough in
+        let block = h.between.inner.block in
+        let shows : block.response ≡ shown_after t.order 0 front = inv.shown ∙ kept_shown t.order front (opened start) in
+        let is_open : open_word block.state ≡ Some asked = sym (ap (λ (x : Look). x.«open») l) ∙ opens in
+        let near = within kind.patience patient block.state block.response (kind.meaning h.between.weigher).standing b.empty b.value asked inv.tied is_open (λ x. n45 (sym shows ∙ x)) (λ x. n20 (sym shows ∙ x)) in
+        let f = found_within b kind.patience g.first inv near enough in
         record {
           before = f.before;
           answering = f.answering;
@@ -252,5 +262,5 @@ module _ {W : Type 0} (meaning : W → Scale) (moves keeps : W → W → Type 0)
           still_open = ap (λ (x : Look). x.«open») (look_append start front f.before ∙ ap (λ (x : Look). look_after x f.before) l) ∙ f.still_open ∙ is_open;
         }
 
-    pub promise : Promise meaning moves keeps p t weigher calls start journal
+    pub promise : Promise kind t weigher calls start journal
     promise = record { rules = r; account = account; book = book; progress = progress }

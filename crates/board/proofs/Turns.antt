@@ -24,6 +24,7 @@ use Rattle.board.specs.declared.command.StepWord.TheVariants.{Next, Cancel, Retr
 use Rattle.board.specs.declared.inner.Inner.{Inner}
 use Rattle.board.specs.declared.note.Note.{Note}
 use Rattle.board.specs.declared.report.Report.{Report}
+use Rattle.board.specs.declared.response.Response.TheVariants.{NotPossible as NotPossibleResponse}
 use Rattle.board.specs.declared.setting.Settings.{Settings}
 use Rattle.board.specs.Acting.{acted, opened_by, started_by}
 use Rattle.board.specs.Book.{Book, succeeded, emptied, valued}
@@ -163,7 +164,7 @@ module _ (p : ℕ) (patient : 1 ≤ p) (t : Settings) (hb : Bool) (c q : ℕ) (r
     ready k listed =
         let i : Inner = inner (block c r rep q Ready) d in
         let s : Scale = scale z tr None in
-        let bad : Verdict = Closed 0x8001 in
+        let bad : Verdict = Closed NotPossibleResponse in
         let good : Verdict = class_as (word k) k in
         cond_both (eqb w c) (i, nothing, s) (in_board i (acted p w (cond flawed bad good) at s)) (Kept p t value (book r) Ready None)
         (λ _. rests r c n47 fits)

@@ -9,17 +9,20 @@ use Rattle.board.specs.declared.block.State.TheVariants.{Ready, Cancelling}
 use Rattle.board.specs.declared.block.steps.Verdict.{Verdict}
 use Rattle.board.specs.declared.block.steps.Verdict.TheVariants.{Ignored, Closed, Selected, Opened, Started, Failed, Cancelled}
 use Rattle.board.specs.declared.note.Note.{Note}
+use Rattle.board.specs.declared.response.Response.{Response}
+use Rattle.board.specs.declared.response.Response.TheVariants.{NotKnown, BadValue, NotPossible}
 use Rattle.board.specs.Notes.{nothing, takes, at_once, answers}
 use Rattle.board.specs.Registers.{shown, posted, selects}
+use Rattle.board.specs.Responses.{word_of}
 
--- the response to a word whose order was declined: not known is code 4, a value out of range code 8, an order that stands code 1
-abbrev pub declined_as : ℕ → ℕ
-declined_as n = cond (n == 22) 0x8004 (cond (n == 23) 0x8008 0x8001)
+-- the response to a word whose order was declined by this number: not known, a value out of range, or an order that stands
+abbrev pub declined_as : ℕ → Response
+declined_as n = cond (n == 22) NotKnown (cond (n == 23) BadValue NotPossible)
 
 -- a word is taken: its order stands, or it is closed with the decline
 abbrev pub opened_by : ℕ → State → Block → Option ℕ × Scale → Block × Note × Scale
 opened_by w st b (None, s) = (shown 2047 st b, takes w, s)
-opened_by w st b (Some n, s) = (posted (declined_as n) Ready b, at_once w (declined_as n), s)
+opened_by w st b (Some n, s) = (posted (word_of (declined_as n)) Ready b, at_once w (word_of (declined_as n)), s)
 
 -- a step starts, or fails
 abbrev pub started_by : State → State → Block → Option ℕ × Scale → Block × Note × Scale
@@ -29,7 +32,7 @@ started_by st failed b (Some n, s) = (posted 0x8020 failed b, answers 0x8020 Non
 -- the verdict on the word w is carried out, with a weigher of patience p
 abbrev pub acted : ℕ → ℕ → Verdict → Block → Scale → Block × Note × Scale
 acted p w Ignored b s = (b, nothing, s)
-acted p w (Closed r) b s = (posted r Ready b, at_once w r, s)
+acted p w (Closed r) b s = (posted (word_of r) Ready b, at_once w (word_of r), s)
 acted p w (Selected r) b s = (posted w Ready (selects r b), at_once w w, s)
 acted p w (Opened o st) b s = opened_by w st b (begun p o s)
 acted p w (Started st failed) b s = started_by st failed b (begun p Settle s)

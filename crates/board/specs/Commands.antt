@@ -1,21 +1,21 @@
 -- The command list: each number with its class.
-use Rattle.std.specs.Prelude.{ℕ, Bool, true, false, cond, List, [], ◌∷◌, Some, None, Option, ◌==◌}
+use Rattle.std.specs.Prelude.{ℕ, Bool, true, false, List, [], ◌∷◌, find, Option, ◌==◌}
+use Rattle.std.specs.Option.{option_map}
 use Rattle.weigher.specs.declared.orders.Order.TheVariants.{TareWhenStill, ZeroWhenStill, TareNow, ZeroNow, ClearTare}
 use Rattle.board.specs.declared.report.Quantity.{Quantity}
 use Rattle.board.specs.declared.report.Quantity.TheVariants.{Gross, Tare, Net, Deviation}
 use Rattle.board.specs.declared.report.Report.{Report as ReportOf}
 use Rattle.board.specs.declared.command.StepWord.TheVariants.{Next, Cancel, Retry, Skip}
 use Rattle.board.specs.declared.command.Class.{Class}
-use Rattle.board.specs.declared.list.Command.{Command}
 use Rattle.board.specs.declared.command.Class.TheVariants.{Report, NoOperation, PresetTare, Order, WeightTest, Step}
 
 abbrev pub report : Quantity → Bool → ReportOf
 report q r = record { quantity = q; rounded = r }
 
-abbrev row : ℕ → Class → Command
-row n c = record { number = n; class = c }
+abbrev row : ℕ → Class → ℕ × Class
+row n c = (n, c)
 
-abbrev pub commands : List Command
+abbrev pub commands : List (ℕ × Class)
 commands =
     row 0 (Report (report Gross true)) ∷
     row 1 (Report (report Gross true)) ∷
@@ -40,9 +40,8 @@ commands =
     row 2006 (Step Skip) ∷ []
 
 -- the class that a list gives a number
-abbrev pub lookup : List Command → ℕ → Option Class
-lookup [] n = None
-lookup (command ∷ rest) n = cond (command.number == n) (Some command.class) (lookup rest n)
+abbrev pub lookup : List (ℕ × Class) → ℕ → Option Class
+lookup xs n = option_map (λ (r : ℕ × Class). r.1) (find (λ (r : ℕ × Class). r.0 == n) xs)
 
 unfoldable pub class_of : ℕ → Option Class
 class_of n = lookup commands n

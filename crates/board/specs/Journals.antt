@@ -1,7 +1,7 @@
--- What the rules make of a list of calls: the entries of its journal, and the board and weigher that each leaves.
-use Rattle.std.specs.Prelude.{◌≡◌, ℕ, List, [], ◌∷◌, length, Some, None}
-use Rattle.weigher.specs.Scale.{Scale}
-use Rattle.board.specs.declared.inner.Inner.{Inner}
+-- What the rules make of a list of calls: the entries of its journal, and the board that each leaves.
+use Rattle.std.specs.Prelude.{◌≡◌, List, [], ◌∷◌, length, Some, None}
+use Rattle.weigher.specs.Kind.{Kind}
+use Rattle.board.specs.declared.board.Board.{Board}
 use Rattle.board.specs.declared.journal.Answer.{Answer}
 use Rattle.board.specs.declared.journal.Answer.TheVariants.{Scanned, Replied, Looked, Declined}
 use Rattle.board.specs.declared.journal.Call.{Call}
@@ -13,35 +13,31 @@ use Rattle.board.specs.Declines.{number_of, scan_decline, read_decline}
 use Rattle.board.specs.Images.{image_of}
 use Rattle.board.specs.Scans as scans
 
-module _ {W : Type 0} (meaning : W → Scale) (moves keeps : W → W → Type 0) (p : ℕ) where
-  -- the call left the weigher and the board as they were
-  abbrev pub Unchanged : W → Inner → W → Inner → Type 0
-  Unchanged w i w' i' = (w' ≡ w) × (i' ≡ i)
-
-  -- what a call does to a weigher and a board, and what it is answered
-  abbrev pub Step : Call → Answer → W → Inner → W → Inner → Type 0
-  Step (Scan write n) (Scanned image read note load) w i w' i' =
+module _ {W : Type 0} (k : Kind W) where
+  -- what a call does to a board, and what it is answered; any call but an answered scan leaves the board as it was
+  abbrev pub Step : Call → Answer → Board W → Board W → Type 0
+  Step (Scan write n) (Scanned image read note load) before after =
       (scan_decline (length write.now) n ≡ None)
       × (image ≡ write.now)
-      × scans.Scanned meaning moves keeps p w i image w' i' note
-      × (read ≡ image_of i' (meaning w'))
-      × (load ≡ (meaning w').load)
-  Step (Scan write n) (Replied strip) w i w' i' = ⊥
-  Step (Scan write n) (Looked l) w i w' i' = ⊥
-  Step (Scan write n) (Declined d) w i w' i' = (scan_decline (length write.now) n ≡ Some (number_of d)) × Unchanged w i w' i'
-  Step (Read class instance attribute n) (Scanned image read note load) w i w' i' = ⊥
-  Step (Read class instance attribute n) (Replied strip) w i w' i' =
-      (read_decline class instance attribute n ≡ None)
-      × ((r : Report) × (attribute_report attribute ≡ Some r) × (strip ≡ reply_of i (meaning w) r))
-      × Unchanged w i w' i'
-  Step (Read class instance attribute n) (Looked l) w i w' i' = ⊥
-  Step (Read class instance attribute n) (Declined d) w i w' i' = (read_decline class instance attribute n ≡ Some (number_of d)) × Unchanged w i w' i'
-  Step Look (Scanned image read note load) w i w' i' = ⊥
-  Step Look (Replied strip) w i w' i' = ⊥
-  Step Look (Looked l) w i w' i' = (l ≡ look_of i (meaning w)) × Unchanged w i w' i'
-  Step Look (Declined d) w i w' i' = ⊥
+      × scans.Scanned k before image after note
+      × (read ≡ image_of after.inner (k.meaning after.weigher))
+      × (load ≡ (k.meaning after.weigher).load)
+  Step (Scan write n) (Replied strip) before after = ⊥
+  Step (Scan write n) (Looked l) before after = ⊥
+  Step (Scan write n) (Declined d) before after = (scan_decline (length write.now) n ≡ Some (number_of d)) × (after ≡ before)
+  Step (Read address n) (Scanned image read note load) before after = ⊥
+  Step (Read address n) (Replied strip) before after =
+      (read_decline address n ≡ None)
+      × ((r : Report) × (attribute_report address.attribute ≡ Some r) × (strip ≡ reply_of before.inner (k.meaning before.weigher) r))
+      × (after ≡ before)
+  Step (Read address n) (Looked l) before after = ⊥
+  Step (Read address n) (Declined d) before after = (read_decline address n ≡ Some (number_of d)) × (after ≡ before)
+  Step Look (Scanned image read note load) before after = ⊥
+  Step Look (Replied strip) before after = ⊥
+  Step Look (Looked l) before after = (l ≡ look_of before.inner (k.meaning before.weigher)) × (after ≡ before)
+  Step Look (Declined d) before after = ⊥
 
-  -- the calls, made in order from a weigher and a board on, leave these entries and end with that weigher and that board
-  pub data Played : W → Inner → List Call → List Entry → W → Inner → Type 0 where
-    done : (w : W) (i : Inner) → Played w i [] [] w i
-    next : (call : Call) (calls : List Call) (e : Entry) (es : List Entry) (w : W) (i : Inner) (w₁ : W) (i₁ : Inner) (w₂ : W) (i₂ : Inner) → Step call e.answer w i w₁ i₁ → e.after ≡ look_of i₁ (meaning w₁) → Played w₁ i₁ calls es w₂ i₂ → Played w i (call ∷ calls) (e ∷ es) w₂ i₂
+  -- the calls, made in order from a board on, leave these entries and end with that board
+  pub data Played : Board W → List Call → List Entry → Board W → Type 0 where
+    done : (b : Board W) → Played b [] [] b
+    next : (call : Call) (calls : List Call) (e : Entry) (es : List Entry) (b b₁ b₂ : Board W) → Step call e.answer b b₁ → e.after ≡ look_of b₁.inner (k.meaning b₁.weigher) → Played b₁ calls es b₂ → Played b (call ∷ calls) (e ∷ es) b₂

@@ -10,6 +10,7 @@ use Rattle.board.specs.declared.block.steps.Verdict.TheVariants.{Ignored, Closed
 use Rattle.board.specs.declared.command.StepWord.{StepWord}
 use Rattle.board.specs.declared.command.StepWord.TheVariants.{Next, Cancel, Retry, Skip}
 use Rattle.board.specs.declared.command.Class.{Class}
+use Rattle.board.specs.declared.response.Response.TheVariants as response
 use Rattle.board.specs.declared.command.Class.TheVariants.{Report, NoOperation, PresetTare, Order, WeightTest, Step}
 
 abbrev pub step_in : Option Class → Option StepWord
@@ -29,23 +30,23 @@ step_of j = step_in j.class
 abbrev pub opened_as : Judged → WeigherOrder → Verdict
 opened_as j o = Opened o (Working j.word)
 
--- the preset needs a whole value, else code 8
+-- the preset needs a whole value
 abbrev pub preset_as : Judged → Option ℤ → Verdict
-preset_as j None = Closed 0x8008
+preset_as j None = Closed response.BadValue
 preset_as j (Some v) = opened_as j (presetTo v)
 
 abbrev pub class_as : Judged → Option Class → Verdict
-class_as j None = Closed 0x8004
+class_as j None = Closed response.NotKnown
 class_as j (Some (Report r)) = Selected r
-class_as j (Some NoOperation) = Closed j.word
+class_as j (Some NoOperation) = Closed (response.Done j.word)
 class_as j (Some PresetTare) = preset_as j j.value
 class_as j (Some (Order o)) = opened_as j o
 class_as j (Some WeightTest) = Opened Settle FirstStep
-class_as j (Some (Step s)) = Closed 0x8001
+class_as j (Some (Step s)) = Closed response.NotPossible
 
--- a word that is taken: a flawed one is code 1, one that is not listed code 4, a step word code 1
+-- a word that is taken: a flawed one and a step word are not possible, one that is not listed is not known
 abbrev pub taken_as : Judged → Verdict
-taken_as j = cond j.flawed (Closed 0x8001) (class_as j j.class)
+taken_as j = cond j.flawed (Closed response.NotPossible) (class_as j j.class)
 
 -- the second step of the weight test, with a value that must be whole and from 1 to the capacity
 abbrev pub second_step : ℤ → Option ℤ → ℕ → Verdict

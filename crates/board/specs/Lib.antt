@@ -1,3 +1,4 @@
+pub mod Responses
 pub mod Commands
 pub mod Registers
 pub mod Dues

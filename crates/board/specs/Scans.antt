@@ -1,7 +1,9 @@
 -- What an answered scan does, once the weigher was tended: a response that is due is posted, else the command word is judged.
+use Rattle.wire.specs.declared.block.MeasuringBlockWritten.{MeasuringBlockWritten as Written}
 use Rattle.std.specs.Prelude.{◌≡◌, ℕ, cond, ◌||◌, List, Some, None, Option, ◌==◌, nat_le}
 use Rattle.std.specs.Option.{unwrap_or}
 use Rattle.weigher.specs.declared.answers.Told.{Told}
+use Rattle.weigher.specs.Kind.{Kind}
 use Rattle.weigher.specs.Scale.{Scale, gross}
 use Rattle.weigher.specs.Rules.{worked, sensed}
 use Rattle.wire.specs.declared.order.Order.{Order}
@@ -10,6 +12,7 @@ use Rattle.wire.specs.Floats.{whole_of}
 use Rattle.board.specs.declared.block.Block.{Block}
 use Rattle.board.specs.declared.block.steps.Due.{Due}
 use Rattle.board.specs.declared.block.steps.Judged.{Judged}
+use Rattle.board.specs.declared.board.Board.{Board}
 use Rattle.board.specs.declared.inner.Inner.{Inner}
 use Rattle.board.specs.declared.note.Note.{Note}
 use Rattle.board.specs.Acting.{acted}
@@ -19,15 +22,19 @@ use Rattle.board.specs.Inners.{with_block, with_deviation, flipped}
 use Rattle.board.specs.Judging.{verdict_on}
 use Rattle.board.specs.Notes.{nothing, answers}
 use Rattle.board.specs.Registers.{compares, posted, open_word}
+use Rattle.board.specs.Responses.{word_of}
 
--- the command word of a write image, with what it is judged by
-abbrev pub judged_in : Order → List ℕ → Judged
-judged_in o w = record {
-  word = command_in o w;
-  flawed = nat_le 2048 (command_in o w) || nat_le 2 (mask_in o w);
-  class = class_of (command_in o w);
-  value = whole_of (value_in o w);
+-- the command word of a block written, with what it is judged by
+abbrev pub judged_of : Written → Judged
+judged_of w = record {
+  word = w.command;
+  flawed = nat_le 2048 w.command || nat_le 2 w.mask;
+  class = class_of w.command;
+  value = whole_of w.value;
 }
+
+abbrev pub judged_in : Order → List ℕ → Judged
+judged_in o w = judged_of (record { value = value_in o w; mask = mask_in o w; command = command_in o w })
 
 -- the word that a response closes: the open one, where it leaves none open
 abbrev pub closed_by : Option ℕ → Option ℕ → Option ℕ
@@ -36,10 +43,10 @@ closed_by before (Some w) = None
 
 -- a response that is due is posted
 abbrev pub paid : Due → Inner → Inner
-paid d i = with_deviation (unwrap_or d.deviation i.deviation) (with_block (posted d.response d.state i.block) i)
+paid d i = with_deviation (unwrap_or d.deviation i.deviation) (with_block (posted (word_of d.response) d.state i.block) i)
 
 abbrev pub paid_note : Due → Inner → Note
-paid_note d i = answers d.response (closed_by (open_word i.block.state) (open_word d.state))
+paid_note d i = answers (word_of d.response) (closed_by (open_word i.block.state) (open_word d.state))
 
 -- the board's registers with the block that acting left
 abbrev pub in_board : Inner → Block × Note × Scale → Inner × Note × Scale
@@ -68,12 +75,12 @@ beaten r = (flipped r.0, r.1, r.2)
 unfoldable pub answered : ℕ → Inner → Told → Scale → List ℕ → Inner × Note × Scale
 answered p i told s write = beaten (responded p i told s (judged_in i.settings.order write))
 
--- an answered scan of a board i on a weigher w, over any kind of weigher
-pub record Scanned {W : Type 0} (meaning : W → Scale) (moves keeps : W → W → Type 0) (p : ℕ) (w : W) (i : Inner) (write : List ℕ) (w' : W) (i' : Inner) (n : Note) : Type 0 where
+-- an answered scan, from the board before it to the board after it, over any kind of weigher
+pub record Scanned {W : Type 0} (k : Kind W) (before : Board W) (write : List ℕ) (after : Board W) (n : Note) : Type 0 where
   -- the weigher after its tend, and what the tend told
   pub tended : W
   pub told : Told
-  pub moved : moves w tended
-  pub work : (told, meaning tended) ≡ worked (sensed (meaning w) (meaning tended))
-  pub rules : (i', n, meaning w') ≡ answered p i told (meaning tended) write
-  pub kept : keeps tended w'
+  pub moved : k.moves before.weigher tended
+  pub work : (told, k.meaning tended) ≡ worked (sensed (k.meaning before.weigher) (k.meaning tended))
+  pub rules : (after.inner, n, k.meaning after.weigher) ≡ answered k.patience before.inner told (k.meaning tended) write
+  pub kept : k.keeps tended after.weigher

@@ -6,6 +6,8 @@ mod calls;
 mod images;
 mod scanning;
 
+pub use calls::attribute_report;
+
 #[derive(Drop)]
 pub struct Board<W> {
     pub(crate) weigher: W,

@@ -3,7 +3,7 @@ use crate::report::Report;
 use weigher::Order;
 
 // The words that go on with a command that is open.
-#[derive(Clone, Copy)]
+#[derive(Clone, Copy, PartialEq, Eq, Debug)]
 pub enum StepWord {
     Next,
     Cancel,
@@ -11,7 +11,7 @@ pub enum StepWord {
     Skip,
 }
 
-#[derive(Clone, Copy)]
+#[derive(Clone, Copy, PartialEq, Eq, Debug)]
 pub enum Class {
     Report(Report),
     NoOperation,

@@ -1,6 +1,9 @@
 // Why a call on the board was declined. A declined call changes nothing.
-ghost use Rattle.std.specs.Prelude.{◌≡◌};
-ghost use Rattle.board.specs.Declines.{number_of};
+ghost use Rattle.std.specs.Prelude.{◌≡◌, Some};
+ghost use Rattle.board.specs.Declines.{number_of, decline_words};
+
+use std::error::Error;
+use std::fmt;
 
 #[derive(Clone, Copy, PartialEq, Eq, Debug)]
 pub enum Declined {
@@ -15,11 +18,28 @@ pub enum Declined {
     ReplyMisfit = 16,
 }
 
-impl Declined {
-    // The number that a listing prints.
-    pub fn number(self) -> u8
-        ensures { result ≡ number_of self }
-    {
-        self as u8
+impl fmt::Display for Declined {
+    ghost output = { λ declined. Some (decline_words declined) };
+
+    fn fmt<W: fmt::Write>(&self, f: &mut fmt::Formatter<W>) -> fmt::Result {
+        f.write_str(match *self {
+            Declined::WriteMisfit => "the write strip is not of eight bytes",
+            Declined::ReadMisfit => "the read strip is not of eight bytes",
+            Declined::NoClass => "no such class",
+            Declined::NoInstance => "no such instance",
+            Declined::NoAttribute => "no such attribute",
+            Declined::ReplyMisfit => "the strip is not of four bytes",
+        })
+    }
+}
+
+impl Error for Declined {}
+
+// The number that a listing prints.
+impl From<Declined> for u8 {
+    ghost from_gives = { λ declined number. number ≡ number_of declined };
+
+    fn from(declined: Declined) -> u8 {
+        declined as u8
     }
 }

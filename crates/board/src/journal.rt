@@ -1,4 +1,5 @@
 // Calls on a board, and the journal of what they were answered.
+use crate::address::Address;
 use crate::declined::Declined;
 use crate::look::Look;
 use crate::note::Note;
@@ -6,16 +7,8 @@ use crate::note::Note;
 // A call, with its write image and the length of the strip that it is lent to read into.
 #[derive(Clone, Copy)]
 pub enum Call<'a> {
-    Scan {
-        write: &'a [u8],
-        read: usize,
-    },
-    Read {
-        class: u16,
-        instance: u8,
-        attribute: u8,
-        reply: usize,
-    },
+    Scan { write: &'a [u8], read: usize },
+    Read { address: Address, reply: usize },
     Look,
 }
 

@@ -3,140 +3,46 @@ ghost use Rattle.std.specs.Prelude.{◌≡◌};
 ghost use Rattle.board.specs.Commands.{lookup, class_of};
 
 use crate::command::{Class, StepWord};
-use crate::report::{Quantity, Report};
+use crate::report::Report;
 use weigher::Order;
 
-#[derive(Clone, Copy)]
-pub struct Command {
-    number: u16,
-    class: Class,
-}
+// The weight test in two steps.
+pub(crate) const WEIGHT_TEST: u16 = 440;
 
-const COMMANDS: [Command; 21] = [
-    Command {
-        number: 0,
-        class: Class::Report(Report {
-            quantity: Quantity::Gross,
-            rounded: true,
-        }),
-    },
-    Command {
-        number: 1,
-        class: Class::Report(Report {
-            quantity: Quantity::Gross,
-            rounded: true,
-        }),
-    },
-    Command {
-        number: 2,
-        class: Class::Report(Report {
-            quantity: Quantity::Tare,
-            rounded: true,
-        }),
-    },
-    Command {
-        number: 3,
-        class: Class::Report(Report {
-            quantity: Quantity::Net,
-            rounded: true,
-        }),
-    },
-    Command {
-        number: 5,
-        class: Class::Report(Report {
-            quantity: Quantity::Gross,
-            rounded: false,
-        }),
-    },
-    Command {
-        number: 6,
-        class: Class::Report(Report {
-            quantity: Quantity::Tare,
-            rounded: false,
-        }),
-    },
-    Command {
-        number: 7,
-        class: Class::Report(Report {
-            quantity: Quantity::Net,
-            rounded: false,
-        }),
-    },
-    Command {
-        number: 1800,
-        class: Class::Report(Report {
-            quantity: Quantity::Deviation,
-            rounded: false,
-        }),
-    },
-    Command {
-        number: 2000,
-        class: Class::NoOperation,
-    },
-    Command {
-        number: 201,
-        class: Class::PresetTare,
-    },
-    Command {
-        number: 400,
-        class: Class::Order(Order::TareWhenStill),
-    },
-    Command {
-        number: 401,
-        class: Class::Order(Order::ZeroWhenStill),
-    },
-    Command {
-        number: 402,
-        class: Class::Order(Order::ClearTare),
-    },
-    Command {
-        number: 403,
-        class: Class::Order(Order::TareNow),
-    },
-    Command {
-        number: 404,
-        class: Class::Order(Order::ZeroNow),
-    },
-    Command {
-        number: 440,
-        class: Class::WeightTest,
-    },
-    Command {
-        number: 2002,
-        class: Class::Step(StepWord::Next),
-    },
-    Command {
-        number: 2003,
-        class: Class::Step(StepWord::Next),
-    },
-    Command {
-        number: 2004,
-        class: Class::Step(StepWord::Cancel),
-    },
-    Command {
-        number: 2005,
-        class: Class::Step(StepWord::Retry),
-    },
-    Command {
-        number: 2006,
-        class: Class::Step(StepWord::Skip),
-    },
+const COMMANDS: [(u16, Class); 21] = [
+    (0, Class::Report(Report::GROSS_ROUNDED)),
+    (1, Class::Report(Report::GROSS_ROUNDED)),
+    (2, Class::Report(Report::TARE_ROUNDED)),
+    (3, Class::Report(Report::NET_ROUNDED)),
+    (5, Class::Report(Report::GROSS)),
+    (6, Class::Report(Report::TARE)),
+    (7, Class::Report(Report::NET)),
+    (1800, Class::Report(Report::DEVIATION)),
+    (2000, Class::NoOperation),
+    (201, Class::PresetTare),
+    (400, Class::Order(Order::TareWhenStill)),
+    (401, Class::Order(Order::ZeroWhenStill)),
+    (402, Class::Order(Order::ClearTare)),
+    (403, Class::Order(Order::TareNow)),
+    (404, Class::Order(Order::ZeroNow)),
+    (WEIGHT_TEST, Class::WeightTest),
+    (2002, Class::Step(StepWord::Next)),
+    (2003, Class::Step(StepWord::Next)),
+    (2004, Class::Step(StepWord::Cancel)),
+    (2005, Class::Step(StepWord::Retry)),
+    (2006, Class::Step(StepWord::Skip)),
 ];
 
 // The class of a command number, or none where the list has no such number.
-pub(crate) fn class_of(number: u16) -> Option<Class>
+#[tactic(auto, unfolding(crate::specs::Commands::class_of))]
+pub fn class_of(number: u16) -> Option<Class>
     ensures { result ≡ class_of number }
 {
     look_up(&COMMANDS, number)
 }
 
-fn look_up(commands: &[Command], number: u16) -> Option<Class>
+fn look_up(commands: &[(u16, Class)], number: u16) -> Option<Class>
     ensures { result ≡ lookup commands.now number }
 {
-    for command in commands {
-        if command.number == number {
-            return Some(command.class);
-        }
-    }
-    None
+    commands.iter().find(|row| row.0 == number).map(|row| row.1)
 }

@@ -16,8 +16,8 @@ impl Settings {
         ensures declines { refusal_of result ≡ setting_refusal order increment }
         ensures made { IfOk result (λ s. (number_of s.order ≡ order) × (s.increment.grams ≡ increment)) }
     {
-        let order = Order::from_number(order)?;
-        let increment = Increment::from_grams(increment)?;
+        let order = Order::try_from(order)?;
+        let increment = Increment::try_from(increment)?;
         Ok(Settings { order, increment })
     }
 

@@ -1,6 +1,6 @@
 // The status word of a measuring block.
 ghost use Rattle.std.specs.Prelude.{◌≡◌};
-ghost use Rattle.board.specs.Status.{bit_worth, status_word};
+ghost use Rattle.board.specs.Status.{status_word};
 
 // What the status word tells.
 #[derive(Clone, Copy)]
@@ -13,24 +13,17 @@ pub struct Status {
     pub(crate) tared: bool,
 }
 
-impl Status {
-    // Sequence in bits 0 and 1, heartbeat 2, no fault 3, fault 4, centre of zero 5, moving 6, tare not 0 7.
-    pub(crate) fn word(self) -> u16
-        ensures { result ≡ status_word self }
-    {
-        u16::from(self.sequence % 4)
-            + bit_worth(self.heartbeat, 4)
-            + bit_worth(!self.fault, 8)
-            + bit_worth(self.fault, 16)
-            + bit_worth(self.centred, 32)
-            + bit_worth(!self.still, 64)
-            + bit_worth(self.tared, 128)
-    }
-}
+// The status word: sequence in bits 0 and 1, heartbeat 2, no fault 3, fault 4, centre of zero 5, moving 6, tare not 0 7.
+impl From<Status> for u16 {
+    ghost from_gives = { λ status word. word ≡ status_word status };
 
-// A bit by its worth.
-fn bit_worth(set: bool, worth: u16) -> u16
-    ensures { result ≡ bit_worth set worth }
-{
-    if set { worth } else { 0 }
+    fn from(status: Status) -> u16 {
+        u16::from(status.sequence % 4)
+            + 4 * u16::from(status.heartbeat)
+            + 8 * u16::from(!status.fault)
+            + 16 * u16::from(status.fault)
+            + 32 * u16::from(status.centred)
+            + 64 * u16::from(!status.still)
+            + 128 * u16::from(status.tared)
+    }
 }

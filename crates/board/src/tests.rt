@@ -1,6 +1,7 @@
 // Stories of a controller and a board, each with what it is answered.
 mod lent;
 
+use crate::address::Address;
 use crate::board::Board;
 use crate::declined::Declined;
 use crate::journal::{Answer, Call, Entry};
@@ -285,6 +286,14 @@ fn declines_scans(rt: HostRuntime) -> Result<(), Fail> {
     Ok(())
 }
 
+fn at(class: u16, instance: u8, attribute: u8) -> Address {
+    Address {
+        class,
+        instance,
+        attribute,
+    }
+}
+
 // Addresses, each with its decline's number: class, instance, attribute.
 const NOWHERE: [(u16, u8, u8, u8); 5] = [
     (0x301, 2, 0, 13),
@@ -295,11 +304,11 @@ const NOWHERE: [(u16, u8, u8, u8); 5] = [
 ];
 
 // The number that a read into a strip of three bytes is declined with, and the strip.
-fn refused(board: &Board<Ramp>, class: u16, instance: u8, attribute: u8) -> Option<(u8, [u8; 3])> {
+fn refused(board: &Board<Ramp>, address: Address) -> Option<(u8, [u8; 3])> {
     let mut three = [9u8; 3];
-    match board.read(class, instance, attribute, &mut three) {
+    match board.read(address, &mut three) {
         Ok(()) => None,
-        Err(declined) => Some((declined.number(), three)),
+        Err(declined) => Some((u8::from(declined), three)),
     }
 }
 
@@ -309,12 +318,12 @@ fn declines_reads(rt: HostRuntime) -> Result<(), Fail> {
     let board = ramp_board(7, 7)?;
     for (class, instance, attribute, number) in NOWHERE {
         assert_eq!(rt;
-            refused(&board, class, instance, attribute),
+            refused(&board, at(class, instance, attribute)),
             Some((number, [9u8; 3]))
         );
     }
     let mut strip = [9u8; 4];
-    assert_eq!(rt; board.read(0x300, 1, 7, &mut strip), Ok(()));
+    assert_eq!(rt; board.read(at(0x300, 1, 7), &mut strip), Ok(()));
     assert_eq!(rt; strip, [0x40, 0xe0, 0, 0]);
     Ok(())
 }
@@ -360,7 +369,7 @@ fn shown(entry: Entry) -> Option<[u8; 8]> {
 
 fn declined(entry: Entry) -> Option<u8> {
     match entry.answer {
-        Answer::Declined(declined) => Some(declined.number()),
+        Answer::Declined(declined) => Some(u8::from(declined)),
         _ => None,
     }
 }
@@ -384,9 +393,7 @@ fn runs(rt: HostRuntime) -> Result<(), Fail> {
             read: 8,
         },
         Call::Read {
-            class: 0x300,
-            instance: 1,
-            attribute: 8,
+            address: at(0x300, 1, 8),
             reply: 4,
         },
         Call::Scan {

@@ -1,13 +1,10 @@
 // Drives a board from a recorded file: standard input to the listing, or with --explain to the listing explained in plain words.
 #![tactic(auto)]
 
-use drivefile::listing;
+use drivefile::{LONGEST, listing};
 use explain::explanation;
 use std::io::Read;
 use std::{env, io};
-
-// One byte more than a drive file may have, so that a longer one is told without reading it all.
-const ENOUGH: u64 = 65_537;
 
 // Whether the explanation is asked for, by the one argument --explain. Any other arguments change nothing, readable or not.
 fn explains(rt: &HostRuntime) -> bool {
@@ -24,7 +21,8 @@ fn explains(rt: &HostRuntime) -> bool {
 fn main(rt: HostRuntime) -> io::Result<()> {
     let explains = explains(&rt);
     let mut file = Vec::new(rt.alloc());
-    rt.stdin().take(ENOUGH).read_to_end(&mut file)?;
+    // One byte more than a drive file may have, so that a longer one is told without reading it all.
+    rt.stdin().take(LONGEST as u64 + 1).read_to_end(&mut file)?;
     let text = if explains {
         explanation(rt.alloc(), file.as_slice())?
     } else {

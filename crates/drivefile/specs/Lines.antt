@@ -1,5 +1,6 @@
 -- The lines of a listing, byte for byte.
 use Rattle.std.specs.Prelude.{ℕ, ◌+◌, ◌/◌, ◌%◌, cond, List, [], ◌∷◌, ◌++◌, Some, None, codes, decimal, Option, nat_lt}
+use Rattle.std.specs.List.{flat_map}
 use Rattle.board.specs.declared.journal.Answer.{Answer}
 use Rattle.board.specs.declared.journal.Answer.TheVariants.{Scanned, Replied, Looked, Declined}
 use Rattle.board.specs.declared.journal.Entry.{Entry}
@@ -14,8 +15,7 @@ abbrev pub hex_byte : ℕ → List ℕ
 hex_byte b = hex_digit (b / 16) ∷ hex_digit (b % 16) ∷ []
 
 abbrev pub hex_bytes : List ℕ → List ℕ
-hex_bytes [] = []
-hex_bytes (b ∷ bs) = hex_byte b ++ hex_bytes bs
+hex_bytes bytes = flat_map hex_byte bytes
 
 -- a word of four digits, or four dashes for none
 abbrev pub word_field : Option ℕ → List ℕ
@@ -49,5 +49,4 @@ answer_line (Looked l) = []
 answer_line (Declined d) = decline_line (number_of d)
 
 abbrev pub entry_lines : List Entry → List ℕ
-entry_lines [] = []
-entry_lines (e ∷ es) = answer_line e.answer ++ entry_lines es
+entry_lines entries = flat_map (λ e. answer_line e.answer) entries

@@ -11,8 +11,9 @@ mod reader;
 mod record;
 
 pub use fault::{Fault, Flaw};
+pub use head::LONGEST;
 pub use lines::{put_answer, put_fault};
 pub use listings::{drive, listing, put_tail};
-pub use outcome::{Drive, Failure, Tail};
+pub use outcome::{Drive, Failure};
 pub use reader::record_at;
 pub use record::{Placed, Record, Turn};

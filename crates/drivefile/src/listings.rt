@@ -5,21 +5,21 @@ ghost use Rattle.drivefile.specs.Lines.{entry_lines};
 ghost use Rattle.drivefile.specs.Listings.{head_fault, DrivenRun, FailsBy, Listed, OnlyListing};
 
 use crate::calls::read_calls;
+use crate::fault::Fault;
 use crate::head::head_of;
 use crate::lines::{put_end, put_entries, put_fault};
-use crate::outcome::{Drive, Failure, Recorded, Tail};
+use crate::outcome::{Drive, Failure, Recorded};
+use crate::reader::Reader;
 use board::run;
 use std::alloc::{AllocError, Global};
-
-// Where the third record begins.
-const THIRD: usize = 17;
 
 // Makes the calls of a drive file on the board that its first two records describe.
 pub fn drive(heap: Global, file: &[u8]) -> Result<Drive<'_>, Failure>
     ensures { MatchResult result (λ d. (head_fault file.now ≡ None) × DrivenRun file.now d.settings d.calls.items d.start d.journal.items d.tail) (λ f. FailsBy (head_fault file.now) f) }
 {
-    let head = head_of(file)?;
-    let Recorded { calls, tail } = read_calls(heap, file, THIRD)?;
+    let mut reader = Reader::new(file);
+    let head = head_of(&mut reader)?;
+    let Recorded { calls, tail } = read_calls(heap, reader)?;
     let journal = run(heap, head.ramp, head.settings, calls.as_slice())?;
     Ok(Drive {
         settings: head.settings,
@@ -31,12 +31,12 @@ pub fn drive(heap: Global, file: &[u8]) -> Result<Drive<'_>, Failure>
 }
 
 // The last line.
-pub fn put_tail(heap: Global, out: &mut Vec<u8>, tail: Tail) -> Result<(), AllocError>
+pub fn put_tail(out: &mut Vec<u8>, tail: Result<(), Fault>) -> Result<(), AllocError>
     ensures { OnOk result (out.new.items ≡ out.old.items ++ tail_line tail) }
 {
     match tail {
-        Tail::End => put_end(out),
-        Tail::Stopped(fault) => put_fault(heap, out, fault.flaw.number(), fault.place),
+        Ok(()) => put_end(out),
+        Err(fault) => put_fault(out, fault.flaw.into(), fault.place),
     }
 }
 
@@ -45,8 +45,8 @@ fn lines_of(heap: Global, driven: Drive<'_>) -> Result<Vec<u8>, AllocError>
     ensures { IfOk result (λ v. v.items ≡ entry_lines driven.entry.journal.items ++ tail_line driven.entry.tail) }
 {
     let mut out = Vec::new(heap);
-    put_entries(heap, &mut out, driven.journal.as_slice())?;
-    put_tail(heap, &mut out, driven.tail)?;
+    put_entries(&mut out, driven.journal.as_slice())?;
+    put_tail(&mut out, driven.tail)?;
     Ok(out)
 }
 
@@ -56,13 +56,10 @@ pub fn listing(heap: Global, file: &[u8]) -> Result<Vec<u8>, AllocError>
     ensures only { IfOk result (λ v. OnlyListing file.now v.items) }
 {
     match drive(heap, file) {
-        Ok(driven) => {
-            let lines = lines_of(heap, driven)?;
-            Ok(lines)
-        }
+        Ok(driven) => lines_of(heap, driven),
         Err(Failure::Faulty(fault)) => {
             let mut out = Vec::new(heap);
-            put_fault(heap, &mut out, fault.flaw.number(), fault.place)?;
+            put_fault(&mut out, fault.flaw.into(), fault.place)?;
             Ok(out)
         }
         Err(Failure::Memory(e)) => Err(e),

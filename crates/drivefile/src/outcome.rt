@@ -6,21 +6,15 @@ use crate::fault::Fault;
 use board::{Call, Entry, Look, Settings};
 use std::alloc::AllocError;
 
-// What ends the calls of a drive file: its end record, or a fault.
-#[derive(Clone, Copy)]
-pub enum Tail {
-    End,
-    Stopped(Fault),
-}
-
-// The calls of a drive file, and what ends them.
+// The calls of a drive file, and what ends them: its end record, or a fault.
 #[derive(Drop)]
 pub struct Recorded<'a> {
     pub calls: Vec<Call<'a>>,
-    pub tail: Tail,
+    pub tail: Result<(), Fault>,
 }
 
-// A drive file whose calls were made: the journal has an entry for each.
+// A drive file whose calls were made: the journal has an entry for each. The two stay apart, as in the promise over runs:
+// the calls are the file's, the journal is the board's.
 #[derive(Drop)]
 pub struct Drive<'a> {
     pub settings: Settings,
@@ -28,7 +22,7 @@ pub struct Drive<'a> {
     // What look tells before the first call.
     pub start: Look,
     pub journal: Vec<Entry>,
-    pub tail: Tail,
+    pub tail: Result<(), Fault>,
 }
 
 // Why no call was made.

@@ -1,29 +1,35 @@
 -- A drive file explained: each line of its listing, and below it what happened in plain words.
-use Rattle.std.specs.Prelude.{ℕ, cond, List, [], ◌∷◌, ◌++◌, Some, None, codes, Option, ◌==◌, slice_index}
+use Rattle.std.specs.Prelude.{ℕ, cond, true, List, [], ◌∷◌, ◌++◌, Some, None, Ok, Err, codes, Option, Result, ◌==◌, slice_index}
 use Rattle.std.specs.Option.{unwrap_or}
 use Rattle.wire.specs.declared.order.Order.{Order}
 use Rattle.wire.specs.Blocks.{value_in, mask_in, command_in}
 use Rattle.wire.specs.Floats.{whole_of}
 use Rattle.board.specs.declared.look.Look.{Look as LookOf}
 use Rattle.board.specs.declared.note.Note.{Note}
+use Rattle.board.specs.declared.report.Quantity.TheVariants.{Gross}
+use Rattle.board.specs.declared.report.Report.{Report}
 use Rattle.board.specs.declared.setting.Settings.{Settings}
 use Rattle.board.specs.declared.journal.Answer.{Answer}
 use Rattle.board.specs.declared.journal.Answer.TheVariants.{Scanned, Replied, Looked, Declined}
 use Rattle.board.specs.declared.journal.Call.{Call}
 use Rattle.board.specs.declared.journal.Call.TheVariants.{Scan, Read, Look}
 use Rattle.board.specs.declared.journal.Entry.{Entry}
-use Rattle.drivefile.specs.declared.outcome.Tail.{Tail}
-use Rattle.drivefile.specs.declared.outcome.Tail.TheVariants.{End, Stopped}
+use Rattle.board.specs.Boards.{attribute_report}
+use Rattle.board.specs.Commands.{report}
+use Rattle.board.specs.Declines.{decline_words}
+use Rattle.drivefile.specs.declared.fault.Fault.{Fault}
 use Rattle.drivefile.specs.Drives.{tail_line}
-use Rattle.drivefile.specs.Faults.{number_of}
+use Rattle.drivefile.specs.Faults.{number_of, fault_words}
 use Rattle.drivefile.specs.Lines.{answer_line, fault_line}
 use Rattle.drivefile.specs.Listings.{Text, TextOf}
-use Rattle.explain.specs.declared.names.Report.{Report}
-use Rattle.explain.specs.declared.names.Report.TheVariants as report
 use Rattle.explain.specs.declared.words.Reply.{Reply}
 use Rattle.explain.specs.declared.words.Scan.{Scan as ScanOf}
-use Rattle.explain.specs.Names.{report_by, report_at, decline_words, fault_words}
+use Rattle.explain.specs.Names.{report_by}
 use Rattle.explain.specs.Words.{scan_words, reply_words}
+
+-- what a new board reports
+abbrev pub gross_rounded : Report
+gross_rounded = report Gross true
 
 -- the report that the value shows after a scan: one that the scan closed by its own number, or else the one before
 abbrev pub selected_in : Report → Option ℕ → Option ℕ → Report
@@ -44,7 +50,7 @@ scan_in o s read note after = record { report = s; value = whole_of (value_in o 
 -- the attribute that a call reads
 abbrev pub attribute_of : Call → ℕ
 attribute_of (Scan write n) = 0
-attribute_of (Read class instance attribute n) = attribute
+attribute_of (Read address n) = address.attribute
 attribute_of Look = 0
 
 -- a strip of four bytes has the value of a block that begins with them
@@ -54,7 +60,7 @@ block_of strip = slice_index strip 0 ∷ slice_index strip 1 ∷ slice_index str
 abbrev pub reply_in : Order → Call → List ℕ → Reply
 reply_in o call strip = record {
   attribute = attribute_of call;
-  report = unwrap_or (report_at (attribute_of call)) report.GrossRounded;
+  report = unwrap_or (attribute_report (attribute_of call)) gross_rounded;
   value = whole_of (value_in o (block_of strip));
 }
 
@@ -76,16 +82,15 @@ explained_lines o s [] es = []
 explained_lines o s (call ∷ calls) [] = []
 explained_lines o s (call ∷ calls) (e ∷ es) = explained_entry o (selected_by s e.answer) call e ++ explained_lines o (selected_by s e.answer) calls es
 
-abbrev pub tail_words : Tail → List ℕ
-tail_words End = codes "the file ends here"
-tail_words (Stopped f) = fault_words (number_of f.flaw)
+abbrev pub tail_words : Result (Unit {0}) Fault → List ℕ
+tail_words (Ok x) = codes "the file ends here"
+tail_words (Err f) = fault_words (number_of f.flaw)
 
 abbrev pub fault_text : ℕ → ℕ → List ℕ
 fault_text n p = fault_line n p ++ indented (fault_words n)
 
--- a new board reports gross, rounded
-abbrev pub run_text : Settings → List Call → List Entry → Tail → List ℕ
-run_text s calls journal tail = explained_lines s.order report.GrossRounded calls journal ++ (tail_line tail ++ indented (tail_words tail))
+abbrev pub run_text : Settings → List Call → List Entry → Result (Unit {0}) Fault → List ℕ
+run_text s calls journal tail = explained_lines s.order gross_rounded calls journal ++ (tail_line tail ++ indented (tail_words tail))
 
 abbrev pub explanation_text : Text
 explanation_text = record { of_fault = fault_text; of_run = run_text }

@@ -1,114 +1,152 @@
-// What a call told: the words of its entry in the journal.
-ghost use Rattle.std.specs.Prelude.{◌≡◌, ◌++◌, IfOk, string_bytes, OnOk};
-ghost use Rattle.explain.specs.Explanations.{selected_by, scan_in, attribute_of, reply_in, answer_words, indented, explained_entry};
+// What the calls of a run told: each line of the listing, with its words.
+ghost use Rattle.std.specs.Prelude.{◌≡◌, [], ◌++◌, IfSome, OnOk};
+ghost use Rattle.explain.specs.Names.{report_by};
+ghost use Rattle.explain.specs.Explanations.{gross_rounded, selected_by, scan_in, attribute_of, reply_in, answer_words, indented, explained_entry, explained_lines};
 
-use crate::names::{Report, decline_words};
 use crate::words::{Reply, Scan};
-use board::{Answer, Call, Entry, Look, Note};
+use board::{Answer, Call, Class, Entry, Look, Note, Report, attribute_report, class_of};
 use drivefile::put_answer;
 use std::alloc::{AllocError, Global};
+use std::fmt;
 use wire::{MeasuringBlockWritten, Order, whole};
 
+// The text so far, the order of the images, and the report that their value shows.
+#[derive(Drop)]
+pub struct Explainer {
+    pub(crate) text: Vec<u8>,
+    pub(crate) order: Order,
+    pub(crate) report: Report,
+}
+
+impl Explainer {
+    pub(crate) fn new(heap: Global, order: Order) -> Explainer
+        ensures text { result.text.items ≡ [] }
+        ensures order { result.order ≡ order }
+        ensures report { result.report ≡ gross_rounded }
+    {
+        Explainer {
+            text: Vec::new(heap),
+            order,
+            report: Report::GROSS_ROUNDED,
+        }
+    }
+
+    // The lines and words of all calls.
+    pub(crate) fn put_calls(
+        &mut self,
+        calls: &[Call<'_>],
+        journal: &[Entry],
+    ) -> Result<(), AllocError>
+        ensures { OnOk result (self.new.text.items ≡ self.old.text.items ++ explained_lines self.old.order self.old.report calls.now journal.now) }
+    {
+        for (call, entry) in calls.iter().zip(journal) {
+            self.put_entry(*call, *entry)?;
+        }
+        Ok(())
+    }
+
+    // The line of a call, and its words. What a scan selects, its own value shows.
+    fn put_entry(&mut self, call: Call<'_>, entry: Entry) -> Result<(), AllocError>
+        ensures text { OnOk result (self.new.text.items ≡ self.old.text.items ++ explained_entry self.old.order (selected_by self.old.report entry.answer) call.entry entry) }
+        ensures order { self.new.order ≡ self.old.order }
+        ensures report { OnOk result (self.new.report ≡ selected_by self.old.report entry.answer) }
+    {
+        put_answer(&mut self.text, entry.answer)?;
+        self.report = selected_by(self.report, entry.answer);
+        self.put_words(call, entry)
+    }
+
+    fn put_words(&mut self, call: Call<'_>, entry: Entry) -> Result<(), AllocError>
+        ensures text { OnOk result (self.new.text.items ≡ self.old.text.items ++ indented (answer_words self.old.order self.old.report call.entry entry.answer entry.after)) }
+        ensures order { self.new.order ≡ self.old.order }
+        ensures report { self.new.report ≡ self.old.report }
+    {
+        match entry.answer {
+            Answer::Scanned { read, note, .. } => {
+                let scan = self.scan_in(read, note, entry.after);
+                put_indented(&mut self.text, scan)
+            }
+            Answer::Replied(strip) => {
+                let reply = self.reply_in(call, strip);
+                put_indented(&mut self.text, reply)
+            }
+            Answer::Looked(_) => put_indented(&mut self.text, ""),
+            Answer::Declined(declined) => {
+                put_indented(&mut self.text, format_args!("declined: {declined}"))
+            }
+        }
+    }
+
+    // What a read image shows. It is laid out as a write image, with the status word and the response in the last two places.
+    fn scan_in(&self, read: [u8; 8], note: Note, after: Look) -> Scan
+        ensures { result ≡ scan_in self.now.order self.now.report read note after }
+    {
+        let shown = MeasuringBlockWritten::from_image(read, self.order);
+        Scan {
+            report: self.report,
+            value: whole(shown.value),
+            status: shown.mask,
+            shown: shown.command,
+            note,
+            after,
+        }
+    }
+
+    fn reply_in(&self, call: Call<'_>, strip: [u8; 4]) -> Reply
+        ensures { result ≡ reply_in self.now.order call.entry strip }
+    {
+        let attribute = attribute_of(call);
+        let [a, b, c, d] = strip;
+        let block = [a, b, c, d, 0, 0, 0, 0];
+        Reply {
+            attribute,
+            report: attribute_report(attribute).unwrap_or(Report::GROSS_ROUNDED),
+            value: whole(MeasuringBlockWritten::from_image(block, self.order).value),
+        }
+    }
+}
+
 // The report that the value shows after a call, if this one was selected before it.
-pub(crate) fn selected_by(before: Report, answer: Answer) -> Report
+fn selected_by(before: Report, answer: Answer) -> Report
     ensures { result ≡ selected_by before answer }
 {
     match answer {
-        Answer::Scanned { note, .. } => match (note.closed, note.posted) {
-            (Some(word), Some(response)) if word == response => {
-                Report::by(word).unwrap_or(before)
-            }
-            _ => before,
-        },
+        // Closed by its own number, or nothing was posted or closed.
+        Answer::Scanned { note, .. } if note.posted == note.closed => {
+            note.closed.and_then(report_by).unwrap_or(before)
+        }
         _ => before,
     }
 }
 
-// What a read image shows. It is laid out as a write image, with the status word and the response in the last two places.
-fn scan_in(order: Order, report: Report, read: [u8; 8], note: Note, after: Look) -> Scan
-    ensures { result ≡ scan_in order report read note after }
+// The report that a command word selects, if it selects one.
+fn report_by(word: u16) -> Option<Report>
+    ensures { result ≡ report_by word }
 {
-    let shown = MeasuringBlockWritten::from_image(read, order);
-    Scan {
-        report,
-        value: whole(shown.value),
-        status: shown.mask,
-        shown: shown.command,
-        note,
-        after,
+    match class_of(word) {
+        Some(Class::Report(report)) => Some(report),
+        _ => None,
     }
 }
 
-// The attribute that a call reads.
+// The attribute that a call reads; a reply comes to a read alone, so 0 is never shown.
 fn attribute_of(call: Call<'_>) -> u8
     ensures { result ≡ attribute_of call.entry }
 {
     match call {
-        Call::Read { attribute, .. } => attribute,
+        Call::Read { address, .. } => address.attribute,
         Call::Scan { .. } | Call::Look => 0,
     }
 }
 
-fn reply_in(order: Order, call: Call<'_>, strip: [u8; 4]) -> Reply
-    ensures { result ≡ reply_in order call.entry strip }
-{
-    let attribute = attribute_of(call);
-    let block = [strip[0], strip[1], strip[2], strip[3], 0, 0, 0, 0];
-    Reply {
-        attribute,
-        report: Report::at(attribute).unwrap_or(Report::GrossRounded),
-        value: whole(MeasuringBlockWritten::from_image(block, order).value),
-    }
-}
-
-// The words of a call that was answered so.
-fn words_of(
-    heap: Global,
-    order: Order,
-    report: Report,
-    call: Call<'_>,
-    entry: Entry,
-) -> Result<String, AllocError>
-    ensures { IfOk result (λ s. string_bytes s ≡ answer_words order report call.entry entry.answer entry.after) }
-{
-    match entry.answer {
-        Answer::Scanned { read, note, .. } => {
-            let scan = scan_in(order, report, read, note, entry.after);
-            format!(in heap; "{scan}")
-        }
-        Answer::Replied(strip) => {
-            let reply = reply_in(order, call, strip);
-            format!(in heap; "{reply}")
-        }
-        Answer::Looked(_) => Ok(String::new(heap)),
-        Answer::Declined(declined) => {
-            let words = decline_words(declined);
-            format!(in heap; "declined: {words}")
-        }
-    }
-}
-
-// A line of words under its line of the listing.
-pub(crate) fn put_indented(heap: Global, out: &mut Vec<u8>, words: &str) -> Result<(), AllocError>
-    ensures { OnOk result (out.new.items ≡ out.old.items ++ indented words.now) }
-{
-    let line = format!(in heap; "    {words}\n")?;
-    out.extend_from_slice(line.as_bytes())
-}
-
-// The line of a call, and its words.
-pub(crate) fn put_entry(
-    heap: Global,
-    out: &mut Vec<u8>,
-    order: Order,
-    report: Report,
-    call: Call<'_>,
-    entry: Entry,
+// A line of words under its line of the listing. `drivefile` writes its lines likewise; a public function of it for this one
+// would be no shorter.
+pub(crate) fn put_indented<T: fmt::Display + Drop>(
+    text: &mut Vec<u8>,
+    words: T,
 ) -> Result<(), AllocError>
-    ensures { OnOk result (out.new.items ≡ out.old.items ++ explained_entry order report call.entry entry) }
+    ensures { OnOk result (IfSome (T.output words) (λ w. text.new.items ≡ text.old.items ++ indented w)) }
 {
-    put_answer(heap, out, entry.answer)?;
-    let words = words_of(heap, order, report, call, entry)?;
-    put_indented(heap, out, words.as_str())?;
-    Ok(())
+    let line = format!(in *text.allocator(); "    {words}\n")?;
+    text.extend_from_slice(line.as_bytes())
 }

@@ -1,18 +1,33 @@
 // What a scan or an acyclic read told, in plain words.
 ghost use Rattle.std.specs.Prelude.{◌≡◌, Some};
-ghost use Rattle.explain.specs.Words.{grams_words, taking_words, posting_words, closing_words, open_words, scan_words, reply_words};
+ghost use Rattle.explain.specs.Words.{sentence_output, grams_words, taken_words, posted_words, closed_words, open_words, scan_words, reply_words};
 
 use crate::effect::Effect;
-use crate::names::{Asked, Meaning, Report, Sensor};
-use board::{Look, Note};
+use crate::names::{CommandName, ReportName, sensed_in};
+use board::{Look, Note, Report, Response, class_of};
 use std::fmt;
+
+// A sentence after a blank, or nothing.
+#[derive(Clone, Copy)]
+pub struct Sentence<T>(pub Option<T>);
+
+impl<T: fmt::Display> fmt::Display for Sentence<T> {
+    ghost output = { λ x. sentence_output T.output x.0 };
+
+    fn fmt<W: fmt::Write>(&self, f: &mut fmt::Formatter<W>) -> fmt::Result {
+        match &self.0 {
+            None => Ok(()),
+            Some(words) => write!(f, " {words}"),
+        }
+    }
+}
 
 // A value, which is whole for every weight that a board sends.
 #[derive(Clone, Copy)]
 pub struct Grams(pub Option<i32>);
 
 impl fmt::Display for Grams {
-    ghost output = { λ x. Some (grams_words x) };
+    ghost output = { λ x. Some (grams_words x.0) };
 
     fn fmt<W: fmt::Write>(&self, f: &mut fmt::Formatter<W>) -> fmt::Result {
         match self.0 {
@@ -22,75 +37,60 @@ impl fmt::Display for Grams {
     }
 }
 
-// The command word taken, if any.
+// A command word that was taken.
 #[derive(Clone, Copy)]
-pub struct Taking(pub Option<u16>);
+pub struct Taken(pub u16);
 
-impl fmt::Display for Taking {
-    ghost output = { λ x. Some (taking_words x) };
+impl fmt::Display for Taken {
+    ghost output = { λ x. Some (taken_words x.0) };
 
     fn fmt<W: fmt::Write>(&self, f: &mut fmt::Formatter<W>) -> fmt::Result {
-        match self.0 {
-            None => f.write_str(""),
-            Some(word) => {
-                let asked = Asked::by(word);
-                write!(f, " Takes {word}, {asked}.")
-            }
-        }
+        let word = self.0;
+        let name = CommandName(class_of(word));
+        write!(f, "Takes {word}, {name}.")
     }
 }
 
-// The response posted, if any.
+// A response that was posted.
 #[derive(Clone, Copy)]
-pub struct Posting(pub Option<u16>);
+pub struct Posted(pub u16);
 
-impl fmt::Display for Posting {
-    ghost output = { λ x. Some (posting_words x) };
+impl fmt::Display for Posted {
+    ghost output = { λ x. Some (posted_words x.0) };
 
     fn fmt<W: fmt::Write>(&self, f: &mut fmt::Formatter<W>) -> fmt::Result {
-        match self.0 {
-            None => f.write_str(""),
-            Some(response) => {
-                let meaning = Meaning::of(response);
-                write!(f, " Answers: {meaning}.")
-            }
-        }
+        let response = Response::from(self.0);
+        write!(f, "Answers: {response}.")
     }
 }
 
-// The command word closed, if any.
+// A command word that was closed.
 #[derive(Clone, Copy)]
-pub struct Closing(pub Option<u16>);
+pub struct Closed(pub u16);
 
-impl fmt::Display for Closing {
-    ghost output = { λ x. Some (closing_words x) };
+impl fmt::Display for Closed {
+    ghost output = { λ x. Some (closed_words x.0) };
 
     fn fmt<W: fmt::Write>(&self, f: &mut fmt::Formatter<W>) -> fmt::Result {
-        match self.0 {
-            None => f.write_str(""),
-            Some(word) => write!(f, " Closes {word}."),
-        }
+        let word = self.0;
+        write!(f, "Closes {word}.")
     }
 }
 
-// The command word that is open, if any, and the response that shows.
+// A command word that is open, and the response that shows.
 #[derive(Clone, Copy)]
 pub struct Open {
-    pub word: Option<u16>,
+    pub word: u16,
     pub shown: u16,
 }
 
 impl fmt::Display for Open {
-    ghost output = { λ x. Some (open_words x) };
+    ghost output = { λ x. Some (open_words x.shown x.word) };
 
     fn fmt<W: fmt::Write>(&self, f: &mut fmt::Formatter<W>) -> fmt::Result {
-        match self.word {
-            None => f.write_str(""),
-            Some(word) => {
-                let meaning = Meaning::of(self.shown);
-                write!(f, " Open is {word}: {meaning}.")
-            }
-        }
+        let word = self.word;
+        let response = Response::from(self.shown);
+        write!(f, "Open is {word}: {response}.")
     }
 }
 
@@ -109,20 +109,18 @@ impl fmt::Display for Scan {
     ghost output = { λ x. Some (scan_words x) };
 
     fn fmt<W: fmt::Write>(&self, f: &mut fmt::Formatter<W>) -> fmt::Result {
-        let report = self.report;
+        let report = ReportName(self.report);
         let grams = Grams(self.value);
-        let sensor = Sensor::of(self.status);
-        let taking = Taking(self.note.taken);
-        let posting = Posting(self.note.posted);
-        let closing = Closing(self.note.closed);
-        let effect = Effect::of(self.note, self.after);
-        let open = Open {
-            word: self.after.open,
-            shown: self.shown,
-        };
+        let sensor = sensed_in(self.status);
+        let taken = Sentence(self.note.taken.map(Taken));
+        let posted = Sentence(self.note.posted.map(Posted));
+        let closed = Sentence(self.note.closed.map(Closed));
+        let effect = Sentence(Effect::of(self.note, self.after));
+        let shown = self.shown;
+        let open = Sentence(self.after.open.map(|word| Open { word, shown }));
         write!(
             f,
-            "{report}: {grams}, {sensor}.{taking}{posting}{closing}{effect}{open}"
+            "{report}: {grams}, {sensor}.{taken}{posted}{closed}{effect}{open}"
         )
     }
 }
@@ -140,7 +138,7 @@ impl fmt::Display for Reply {
 
     fn fmt<W: fmt::Write>(&self, f: &mut fmt::Formatter<W>) -> fmt::Result {
         let attribute = self.attribute;
-        let report = self.report;
+        let report = ReportName(self.report);
         let grams = Grams(self.value);
         write!(f, "attribute {attribute}, {report}: {grams}.")
     }

@@ -3,3 +3,4 @@ pub mod Plain
 pub mod Steps
 pub mod Lines
 pub mod Apart
+pub mod Mapped

@@ -1,22 +1,11 @@
 -- The entry of one tend, and its line.
-use Rattle.std.specs.Prelude.{ℕ, Bool, true, false, cond, List, ◌++◌, codes, decimal}
+use Rattle.std.specs.Prelude.{ℕ, Bool, true, false, List, ◌++◌, codes, decimal}
 use Rattle.std.specs.Fmt.{signed_decimal}
 use Rattle.weigher.specs.declared.answers.Told.{Told}
 use Rattle.weigher.specs.declared.answers.Told.TheVariants.{Idle, Waiting, Done, NotPossible, Late}
-use Rattle.weigher.specs.Answers.{word_of}
+use Rattle.weigher.specs.Answers.{word_of, sensed_of, sensed_word}
 use Rattle.weigher.specs.Scale.{Scale}
 use Rattle.replay.specs.declared.journal.Entry.{Entry}
-use Rattle.replay.specs.declared.journal.Sensed.{Sensed}
-use Rattle.replay.specs.declared.journal.Sensed.TheVariants.{Still, Moving, Fault}
-
-abbrev pub sensed_word : Sensed → List ℕ
-sensed_word Still = codes "still"
-sensed_word Moving = codes "moving"
-sensed_word Fault = codes "fault"
-
--- a fault first: a weigher at fault is neither still nor moving in the listing
-abbrev pub sensed_of : Bool → Bool → Sensed
-sensed_of fault still = cond fault Fault (cond still Still Moving)
 
 -- number, load, sensor and what was told, parted by one blank
 abbrev pub entry_line : Entry → List ℕ

@@ -1,21 +1,10 @@
 -- The line that is printed where there is no listing.
 use Rattle.std.specs.Prelude.{ℕ, List, ◌++◌, codes, decimal}
-use Rattle.weigher.specs.declared.answers.Declined.{Declined}
-use Rattle.weigher.specs.declared.answers.Declined.TheVariants.{OrderStands, OrderNotKnown, PresetOutside, NoOrderStands, BadRamp, BadCapacity, BadTolerance}
-use Rattle.weigher.specs.Answers.{number_of}
+use Rattle.weigher.specs.Answers.{number_of, reason_of}
 use Rattle.replay.specs.declared.failure.Flaw.{Flaw}
 use Rattle.replay.specs.declared.failure.Flaw.TheVariants as flaw
 use Rattle.replay.specs.declared.failure.Failure.{Failure}
 use Rattle.replay.specs.declared.failure.Failure.TheVariants.{Input, Memory, Streams}
-
-abbrev pub reason_of : Declined → List ℕ
-reason_of OrderStands = codes "an order stands"
-reason_of OrderNotKnown = codes "the order is not known"
-reason_of PresetOutside = codes "the preset is not 0 to the capacity"
-reason_of NoOrderStands = codes "no order stands"
-reason_of BadRamp = codes "the ramp is out of range"
-reason_of BadCapacity = codes "the capacity is not 1 to 4000000"
-reason_of BadTolerance = codes "the tolerance is not 0 to 1000"
 
 abbrev pub flaw_words : Flaw → List ℕ
 flaw_words flaw.MissingLine = codes "missing"

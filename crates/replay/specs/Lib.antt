@@ -4,6 +4,6 @@ pub mod Entries
 pub mod Words
 pub mod Inputs
 pub mod Refusals
-pub mod Runs
 pub mod Listing
+pub mod Runs
 pub mod Replays

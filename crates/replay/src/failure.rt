@@ -1,14 +1,15 @@
 // Why there is no listing.
 ghost use Rattle.std.specs.Prelude.{◌≡◌, Some};
 ghost use Rattle.replay.specs.declared.failure.Failure.TheVariants.{Input, Memory, Streams};
-ghost use Rattle.replay.specs.Failures.{failure_line, flaw_words, reason_of};
+ghost use Rattle.replay.specs.Failures.{failure_line, flaw_words};
 
 use std::alloc::{AllocError, AllocFailed};
+use std::error::Error;
 use std::{fmt, io};
 use weigher::Declined;
 
 // What is wrong with a line of the input.
-#[derive(Clone, Copy)]
+#[derive(Clone, Copy, Debug)]
 pub enum Flaw {
     MissingLine,
     NoSettings,
@@ -17,7 +18,7 @@ pub enum Flaw {
     Declined(Declined),
 }
 
-#[derive(Clone, Copy)]
+#[derive(Clone, Copy, Debug)]
 pub enum Failure {
     // The line counts from 1.
     Input { line: usize, flaw: Flaw },
@@ -33,21 +34,6 @@ impl Failure {
     }
 }
 
-// What a decline says, in words.
-fn reason(declined: Declined) -> &'static str
-    ensures { result.now ≡ reason_of declined }
-{
-    match declined {
-        Declined::OrderStands => "an order stands",
-        Declined::OrderNotKnown => "the order is not known",
-        Declined::PresetOutside => "the preset is not 0 to the capacity",
-        Declined::NoOrderStands => "no order stands",
-        Declined::BadRamp => "the ramp is out of range",
-        Declined::BadCapacity => "the capacity is not 1 to 4000000",
-        Declined::BadTolerance => "the tolerance is not 0 to 1000",
-    }
-}
-
 impl fmt::Display for Flaw {
     ghost output = { λ x. Some (flaw_words x) };
 
@@ -58,13 +44,14 @@ impl fmt::Display for Flaw {
             Flaw::NoOrder => f.write_str("no such order"),
             Flaw::NoNumber => f.write_str("no number"),
             Flaw::Declined(declined) => {
-                let number = declined.number();
-                let reason = reason(declined);
-                write!(f, "declined with {number}, {reason}")
+                let number = u8::from(declined);
+                write!(f, "declined with {number}, {declined}")
             }
         }
     }
 }
+
+impl Error for Flaw {}
 
 impl fmt::Display for Failure {
     ghost output = { λ x. Some (failure_line x) };
@@ -78,6 +65,8 @@ impl fmt::Display for Failure {
     }
 }
 
+impl Error for Failure {}
+
 impl From<AllocError> for Failure {
     ghost from_gives = { λ _ r. r ≡ Memory };
 
@@ -90,15 +79,6 @@ impl<T: Drop> From<AllocFailed<T>> for Failure {
     ghost from_gives = { λ _ r. r ≡ Memory };
 
     fn from(_e: AllocFailed<T>) -> Failure {
-        Failure::Memory
-    }
-}
-
-// Writing to a text fails only for want of memory.
-impl From<fmt::Error> for Failure {
-    ghost from_gives = { λ _ r. r ≡ Memory };
-
-    fn from(_e: fmt::Error) -> Failure {
         Failure::Memory
     }
 }

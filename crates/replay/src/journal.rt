@@ -1,41 +1,10 @@
 // What a replay tells: an entry for each tend.
 ghost use Rattle.std.specs.Prelude.{◌≡◌, not, Some};
-ghost use Rattle.replay.specs.Entries.{entry_line, sensed_word, sensed_of, is_waiting};
+ghost use Rattle.replay.specs.Entries.{entry_line, is_waiting};
 
 use std::fmt;
-use weigher::{Told, View};
-
-// What the sensor says of the load.
-#[derive(Clone, Copy)]
-pub enum Sensed {
-    Still,
-    Moving,
-    Fault,
-}
-
-impl Sensed {
-    pub fn of(view: View) -> Sensed
-        ensures { result ≡ sensed_of view.fault view.still }
-    {
-        if view.fault {
-            Sensed::Fault
-        } else if view.still {
-            Sensed::Still
-        } else {
-            Sensed::Moving
-        }
-    }
-
-    fn word(self) -> &'static str
-        ensures { result.now ≡ sensed_word self }
-    {
-        match self {
-            Sensed::Still => "still",
-            Sensed::Moving => "moving",
-            Sensed::Fault => "fault",
-        }
-    }
-}
+use std::marker::Model;
+use weigher::{Sensed, Told};
 
 // One tend: its number from 1 on, the load and the sensor after it, and what was told.
 #[derive(Clone, Copy)]
@@ -51,10 +20,7 @@ impl Entry {
     pub fn is_last(&self) -> bool
         ensures { result ≡ not (is_waiting self.now.told) }
     {
-        match self.told {
-            Told::Waiting => false,
-            Told::Idle | Told::Done | Told::NotPossible | Told::Late => true,
-        }
+        self.told != Told::Waiting
     }
 }
 
@@ -62,10 +28,12 @@ impl fmt::Display for Entry {
     ghost output = { λ e. Some (entry_line e) };
 
     fn fmt<W: fmt::Write>(&self, f: &mut fmt::Formatter<W>) -> fmt::Result {
-        let number = self.number;
-        let load = self.load;
-        let sensed = self.sensed.word();
-        let told = self.told.word();
+        let Entry {
+            number,
+            load,
+            sensed,
+            told,
+        } = *self;
         write!(f, "{number} {load} {sensed} {told}")
     }
 }
@@ -75,4 +43,27 @@ pub struct Journal {
     pub entries: Vec<Entry>,
     pub zero: i32,
     pub tare: i32,
+}
+
+impl Model for Journal {
+    ghost use Rattle.replay.specs.Listing.{Account};
+
+    ghost Value = { Account };
+
+    ghost view = { λ j. record { entries = j.entries.items; zero = j.zero; tare = j.tare } };
+}
+
+impl fmt::Display for Journal {
+    ghost use Rattle.replay.specs.Listing.{listing_of};
+
+    ghost output = { λ j. Some (listing_of j) };
+
+    fn fmt<W: fmt::Write>(&self, f: &mut fmt::Formatter<W>) -> fmt::Result {
+        for entry in self.entries.as_slice() {
+            writeln!(f, "{entry}")?;
+        }
+        let zero = self.zero;
+        let tare = self.tare;
+        writeln!(f, "zero {zero} tare {tare}")
+    }
 }

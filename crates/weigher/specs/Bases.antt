@@ -4,4 +4,4 @@ use Rattle.weigher.specs.declared.base.Base.{Base}
 use Rattle.weigher.specs.Scale.{Scale}
 
 abbrev pub scale_of : Base → Scale
-scale_of b = record { load = b.load; zero = b.zero; tare = b.tare; still = b.still; fault = b.fault; standing = b.standing; capacity = b.capacity; knows = λ _. true }
+scale_of b = record { load = b.load.grams; zero = b.zero; tare = b.tare; still = b.still; fault = b.fault; standing = b.standing; capacity = b.capacity; knows = λ _. true }

@@ -1,7 +1,6 @@
 -- What a cell does: each tend takes the next sample, and the latest eight samples say whether it is still.
 use Rattle.std.specs.Prelude.{◌≡◌, ℕ, ◌+◌, ◌-◌, ◌<◌, ◌≤◌, Bool, cond, not, ◌&&◌, List, length, take, drop, ℤ, pos, negsuc, ◌-ℤ◌, ◌≤ℤ◌, Some, None, fold, Option, int_le, nat_le, nat_lt, slice_index_or, unsigned_abs}
 use Rattle.std.specs.Int.{int_min, int_max}
-use Rattle.weigher.specs.Scale.{Scale}
 
 -- the capacity is 1 to 4,000,000, else 45; then the tolerance is 0 to 1,000, else 46
 abbrev pub cell_refusal : ℤ → ℤ → Option ℕ
@@ -39,8 +38,8 @@ readable xs n = nat_lt n (length xs) && nat_le (unsigned_abs (slice_index_or xs 
 abbrev pub taken_next : List ℤ → ℕ → ℕ
 taken_next xs n = cond (nat_lt n (length xs)) (n + 1) n
 
--- what the tend of a cell that had taken n samples does to its reading
-pub record CellMoves (tolerance : ℤ) (xs : List ℤ) (n : ℕ) (s t : Scale) : Type 0 where
-  pub fault : t.fault ≡ not (readable xs n)
-  pub load : t.load ≡ cond (readable xs n) (slice_index_or xs n (pos 0)) s.load
-  pub still : t.still ≡ (readable xs n && settled tolerance xs (n + 1))
+-- what the tend of a cell that had taken n samples reads, after this load
+pub record CellMoves (tolerance : ℤ) (xs : List ℤ) (n : ℕ) (before after : ℤ) (still fault : Bool) : Type 0 where
+  pub fault_read : fault ≡ not (readable xs n)
+  pub load : after ≡ cond (readable xs n) (slice_index_or xs n (pos 0)) before
+  pub still_read : still ≡ (readable xs n && settled tolerance xs (n + 1))

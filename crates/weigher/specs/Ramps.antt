@@ -1,16 +1,17 @@
--- The meaning of a ramp, what its tend does to it, and what begin and drop leave of it.
-use Rattle.std.specs.Prelude.{◌≡◌}
-use Rattle.weigher.specs.declared.ramp.Ramp.{Ramp}
-use Rattle.weigher.specs.Bases.{scale_of}
+-- The ramp as a kind of weigher: what its sensor does in a tend.
+use Rattle.std.specs.Prelude.{◌≡◌, Bool, ℤ}
+use Rattle.weigher.specs.declared.ramp.RampSensor.{RampSensor}
+use Rattle.weigher.specs.declared.single.Single.{Single}
+use Rattle.weigher.specs.Kind.{Kind}
 use Rattle.weigher.specs.Ramp.{RampMoves}
-use Rattle.weigher.specs.Scale.{Scale}
+use Rattle.weigher.specs.Singles.{single_kind}
 
-abbrev pub ramp_scale : Ramp → Scale
-ramp_scale r = scale_of r.base
+abbrev pub Ramp : Type 0
+Ramp = Single RampSensor
 
 -- step and target stay
-abbrev pub RampKept : Ramp → Ramp → Type 0
-RampKept a b = (b.step ≡ a.step) × (b.target ≡ a.target)
+abbrev pub RampSenses : RampSensor → ℤ → RampSensor → ℤ → Bool → Bool → Type 0
+RampSenses a before b after still fault = (b ≡ a) × RampMoves a.step a.target.grams before after still fault
 
-abbrev pub RampMoved : Ramp → Ramp → Type 0
-RampMoved a b = RampKept a b × RampMoves a.step a.target (ramp_scale a) (ramp_scale b)
+abbrev pub ramp_kind : Kind Ramp
+ramp_kind = single_kind RampSenses 50

@@ -1,25 +1,24 @@
 // The cell: recorded samples of a load cell, one to a tend.
-ghost use Rattle.std.specs.Prelude.{◌≡◌, ◌+◌, ◌<◌, ◌≤◌, true, not, ◌&&◌, length, pos, IfOk, if◌then◌else◌, vec_len, slice_index_or, unsigned_abs};
+ghost use Rattle.std.specs.Prelude.{◌≡◌, ◌+◌, ◌<◌, ◌≤◌, true, not, length, pos, is_none, IfOk, IfSome, vec_len, slice_index_or, unsigned_abs};
 ghost use Rattle.weigher.specs.Answers.{decline_of};
 ghost use Rattle.weigher.specs.Bases.{scale_of};
 ghost use Rattle.weigher.specs.Fresh.{fresh};
-ghost use Rattle.weigher.specs.Cell.{cell_refusal, close, steady, Steady, settled, readable, taken_next, CellMoves};
-ghost use Rattle.std.proofs.Common.{rules, arith};
+ghost use Rattle.weigher.specs.Cell.{cell_refusal, close, steady, Steady, settled, readable, taken_next};
+ghost use Rattle.std.proofs.Common.{rules};
 
-use crate::answers::{Declined, Told, View};
-use crate::base::{Base, Reading, in_range};
-use crate::interface::Weigher;
-use crate::orders::Order;
+use crate::answers::Declined;
+use crate::base::Base;
+use crate::load::Load;
+use crate::reading::Reading;
+use crate::sensor::Sensor;
+use crate::single::Single;
 
 // How many samples stillness is judged by.
 const WINDOW: usize = 8;
 
-// The furthest that a load goes from 0.
-const LIMIT: i32 = 4_000_000;
-
+// The recorded samples of a cell.
 #[derive(Drop)]
-pub struct Cell {
-    base: Base,
+pub struct CellSensor {
     samples: Vec<i32>,
     // How many of the samples have been taken.
     taken: usize,
@@ -27,55 +26,31 @@ pub struct Cell {
     ghost taken_within: { taken ≤ vec_len samples },
 }
 
-impl Cell {
+pub type Cell = Single<CellSensor>;
+
+impl Single<CellSensor> {
     pub fn new(samples: Vec<i32>, capacity: i32, tolerance: i32) -> Result<Cell, Declined>
         ensures declines { decline_of result ≡ cell_refusal capacity tolerance }
-        ensures made { IfOk result (λ w. (w.samples.items ≡ samples.items) × (w.taken ≡ 0) × (w.tolerance ≡ tolerance) × (scale_of w.base ≡ fresh (pos 0) (unsigned_abs capacity))) }
+        ensures made { IfOk result (λ w. (w.sensor.samples.items ≡ samples.items) × (w.sensor.taken ≡ 0) × (w.sensor.tolerance ≡ tolerance) × (scale_of w.base ≡ fresh (pos 0) (unsigned_abs capacity))) }
     {
-        if capacity < 1 || capacity > 4_000_000 {
+        if capacity < 1 || capacity > Load::LIMIT {
             return Err(Declined::BadCapacity);
         }
         if tolerance < 0 || tolerance > 1000 {
             return Err(Declined::BadTolerance);
         }
-        Ok(Cell {
-            base: Base::new(0, capacity.unsigned_abs()),
-            samples,
-            taken: 0,
-            tolerance,
+        Ok(Single {
+            base: Base::new(Load::ZERO, capacity.unsigned_abs()),
+            sensor: CellSensor {
+                samples,
+                taken: 0,
+                tolerance,
+            },
         })
     }
+}
 
-    // Takes the next sample. One that is missing or out of range is a fault, with the load as before.
-    fn sense(&mut self) -> Reading
-        ensures fault { result.fault ≡ not (readable self.old.samples.items self.old.taken) }
-        ensures load { result.load ≡ (if readable self.old.samples.items self.old.taken then slice_index_or self.old.samples.items self.old.taken (pos 0) else self.old.base.load) }
-        ensures still { result.still ≡ (readable self.old.samples.items self.old.taken && settled self.old.tolerance self.old.samples.items (self.old.taken + 1)) }
-        ensures taken { self.new.taken ≡ taken_next self.old.samples.items self.old.taken }
-        ensures samples { self.new.samples.items ≡ self.old.samples.items }
-        ensures tolerance { self.new.tolerance ≡ self.old.tolerance }
-        ensures base { scale_of self.new.base ≡ scale_of self.old.base }
-    {
-        let fault = Reading {
-            load: self.base.load(),
-            still: false,
-            fault: true,
-        };
-        if self.taken >= self.samples.len() {
-            return fault;
-        }
-        let sample = self.samples[self.taken];
-        self.taken += 1;
-        if !in_range(sample) {
-            return fault;
-        }
-        Reading {
-            load: sample,
-            still: self.is_settled(),
-            fault: false,
-        }
-    }
-
+impl CellSensor {
     // Whether the latest eight samples exist and are steady.
     fn is_settled(&self) -> bool
         ensures { result ≡ settled self.now.tolerance self.now.samples.items self.now.taken }
@@ -88,46 +63,26 @@ impl Cell {
     }
 }
 
-impl Weigher for Cell {
-    ghost patience = { 200 };
+impl Sensor for CellSensor {
+    ghost use Rattle.weigher.specs.Cells.{CellSenses};
 
-    ghost meaning = { λ w. scale_of w.base };
+    ghost senses = { CellSenses };
 
-    ghost moves = { λ a b. (b.samples.items ≡ a.samples.items) × (b.tolerance ≡ a.tolerance) × (b.taken ≡ taken_next a.samples.items a.taken) × CellMoves a.tolerance a.samples.items a.taken (scale_of a.base) (scale_of b.base) };
-
-    ghost keeps = { λ a b. (b.samples.items ≡ a.samples.items) × (b.tolerance ≡ a.tolerance) × (b.taken ≡ a.taken) };
+    ghost PATIENCE = { 200 };
 
     const PATIENCE: u8 = 200;
 
-    ghost patient = { first_of (Prim.search rules, Prim.grind (arith, Self.row.coded.inj)) };
+    ghost patient = { Prim.search rules };
 
-    ghost bounded = { first_of (Prim.search rules, Prim.grind (arith, Self.row.coded.inj)) };
+    ghost bounded = { Prim.search rules };
 
-    ghost sound = { first_of (Prim.search rules, Prim.grind (arith, Self.row.coded.inj)) };
-
-    ghost reflexive = { first_of (Prim.search rules, Prim.grind (arith, Self.row.coded.inj)) };
-
-    ghost transitive = { first_of (Prim.search rules, Prim.grind (arith, Self.row.coded.inj)) };
-
-    fn longest() -> u8 {
-        Self::PATIENCE
-    }
-
-    fn look(&self) -> View {
-        self.base.look()
-    }
-
-    fn begin(&mut self, order: Order) -> Result<(), Declined> {
-        self.base.begin(Self::PATIENCE, order)
-    }
-
-    fn tend(&mut self) -> Told {
-        let reading = self.sense();
-        self.base.tend(reading)
-    }
-
-    fn drop(&mut self) -> Result<(), Declined> {
-        self.base.drop()
+    // Takes the next sample. One that is missing or out of range is a fault.
+    fn sense(&mut self, _load: Load) -> Option<Reading> {
+        let sample = *self.samples.get(self.taken)?;
+        self.taken += 1;
+        let load = Load::new(sample)?;
+        let still = self.is_settled();
+        Some(Reading { load, still })
     }
 }
 
@@ -136,8 +91,8 @@ fn is_steady(window: &[i32], tolerance: i32) -> bool
     ensures says { result ≡ true → Steady tolerance window.now }
     ensures only { 0 < length window.now → Steady tolerance window.now → result ≡ true }
 {
-    let mut smallest = LIMIT;
-    let mut largest = -LIMIT;
+    let mut smallest = Load::LIMIT;
+    let mut largest = -Load::LIMIT;
     for sample in window {
         smallest = smallest.min(*sample);
         largest = largest.max(*sample);
@@ -149,7 +104,7 @@ fn is_steady(window: &[i32], tolerance: i32) -> bool
 fn is_close(low: i32, high: i32, tolerance: i32) -> bool
     ensures { result ≡ close tolerance low high }
 {
-    if low < -LIMIT || high > LIMIT {
+    if low < -Load::LIMIT || high > Load::LIMIT {
         return false;
     }
     i64::from(high) - i64::from(low) <= i64::from(tolerance)

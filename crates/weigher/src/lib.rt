@@ -5,11 +5,15 @@ mod answers;
 mod base;
 mod cell;
 mod interface;
+mod load;
 mod orders;
 mod ramp;
+mod reading;
 mod sealed;
+mod sensor;
+mod single;
 
-pub use answers::{Declined, Told, View};
+pub use answers::{Declined, Sensed, Told, View};
 pub use cell::Cell;
 pub use interface::Weigher;
 pub use orders::{Order, Standing};

@@ -21,7 +21,7 @@ impl Order {
     {
         match self {
             Order::TareWhenStill | Order::ZeroWhenStill | Order::Settle => true,
-            Order::TareNow | Order::ZeroNow | Order::ClearTare | Order::PresetTare(_) => false,
+            _ => false,
         }
     }
 
@@ -29,14 +29,7 @@ impl Order {
     pub fn is_immediate(self) -> bool
         ensures { result ≡ is_immediate self }
     {
-        match self {
-            Order::TareNow | Order::ZeroNow => true,
-            Order::TareWhenStill
-            | Order::ZeroWhenStill
-            | Order::ClearTare
-            | Order::PresetTare(_)
-            | Order::Settle => false,
-        }
+        matches!(self, Order::TareNow | Order::ZeroNow)
     }
 }
 

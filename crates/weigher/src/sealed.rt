@@ -1,6 +1,6 @@
-// The sealed weigher: any weigher without tare now and zero now.
+// The sealed weigher: any weigher without tare now and zero now. It passes its calls on, as `Single` does, but for one test in
+// begin; there is no plainer form than a line for each.
 ghost use Rattle.std.specs.Prelude.{◌≡◌};
-ghost use Rattle.weigher.specs.Seal.{sealed};
 ghost use Rattle.std.proofs.Common.{rules};
 
 use crate::answers::{Declined, Told, View};
@@ -21,25 +21,17 @@ impl<W: Weigher> Sealed<W> {
 }
 
 impl<W: Weigher> Weigher for Sealed<W> {
-    ghost patience = { W.Weigher.patience };
+    ghost use Rattle.weigher.specs.Seals.{sealed_kind};
 
-    ghost meaning = { λ s. sealed (W.Weigher.meaning s.below) };
+    ghost kind = { sealed_kind W.kind };
 
-    ghost moves = { λ a b. W.Weigher.moves a.below b.below };
-
-    ghost keeps = { λ a b. W.Weigher.keeps a.below b.below };
+    ghost PATIENCE = { W.PATIENCE };
 
     const PATIENCE: u8 = W::PATIENCE;
 
-    ghost patient = { Prim.search rules };
+    ghost lawful = { Prim.search rules };
 
-    ghost bounded = { Prim.search rules };
-
-    ghost sound = { Prim.search rules };
-
-    ghost reflexive = { Prim.search rules };
-
-    ghost transitive = { λ a b c. W.Weigher.transitive a.below b.below c.below };
+    ghost constant = { Prim.search rules };
 
     fn longest() -> u8 {
         W::longest()

@@ -1,5 +1,3 @@
 pub mod Arrangements
-pub mod Signs
 pub mod Steps
-pub mod Turns
 pub mod Wholes

@@ -4,7 +4,7 @@ ghost use Rattle.std.specs.Float.Ieee.{of_int};
 ghost use Rattle.std.specs.Float.{binary32};
 ghost use Rattle.wire.specs.Floats.{whole_of, bits_of, largest, Whole};
 
-use std::num::{f32_to_bits_with_nan, nearest_u64_to_f32, saturating_f32_to_i32};
+use std::num::{f32_to_bits_with_nan, nearest_i64_to_f32, saturating_f32_to_i32};
 
 // The largest whole number that a parameter can be, either way.
 const LARGEST: u32 = 16_777_215;
@@ -16,12 +16,11 @@ const INFINITY: u32 = 0x7f80_0000;
 pub fn float_of(number: i64) -> f32
     ensures { result ≡ of_int binary32 number }
 {
-    let below_zero = number < 0;
-    let size = nearest_u64_to_f32(number.unsigned_abs());
-    if below_zero { -size } else { size }
+    nearest_i64_to_f32(number)
 }
 
 // The bits that a whole number is sent as.
+#[tactic(auto, using(crate::proofs::Wholes::sent_and_read))]
 pub fn bits_of(number: i64) -> u32
     ensures value { result ≡ bits_of number }
     ensures back { unsigned_abs number ≤ largest → whole_of result ≡ Some number }
@@ -31,6 +30,7 @@ pub fn bits_of(number: i64) -> u32
 
 // The whole number that a parameter is, or nothing for a fraction, a number too large, an infinity or a NaN.
 // A NaN is told by its bits, so that no float is made of it.
+#[tactic(auto, using(crate::proofs::Wholes::whole_facts))]
 pub fn whole(bits: u32) -> Option<i32>
     ensures value { result ≡ whole_of bits }
     ensures exact { MatchOption result ((z : ℤ) → Whole bits z → ⊥) (λ z. Whole bits z) }

@@ -1,7 +1,6 @@
 // The increment setting: the grams by which a rounded weight moves.
-ghost use Rattle.std.specs.Prelude.{◌≡◌, false, T, MatchResult};
+ghost use Rattle.std.specs.Prelude.{◌≡◌, T};
 ghost use Rattle.wire.specs.Increments.{listed};
-ghost use Rattle.wire.specs.declared.setting.BadSetting.TheVariants.{UnknownIncrement};
 
 use crate::setting::BadSetting;
 
@@ -12,18 +11,26 @@ pub struct Increment {
     ghost known: { T (listed grams) },
 }
 
-impl Increment {
-    // The increment of so many grams, or the refusal of a number that is not listed.
-    pub fn from_grams(grams: u16) -> Result<Increment, BadSetting>
-        ensures { MatchResult result (λ i. i.grams ≡ grams) (λ e. (e ≡ UnknownIncrement) × (listed grams ≡ false)) }
-    {
+// The increment of so many grams, or the refusal of a number that is not listed.
+impl TryFrom<u16> for Increment {
+    ghost use Rattle.std.specs.Prelude.{false, MatchResult};
+    ghost use Rattle.wire.specs.declared.setting.BadSetting.TheVariants.{UnknownIncrement};
+
+    type Error = BadSetting;
+
+    ghost try_from_gives = { λ grams made. MatchResult made (λ i. i.grams ≡ grams) (λ e. (e ≡ UnknownIncrement) × (listed grams ≡ false)) };
+
+    #[tactic(auto, unfolding(crate::specs::Increments::listed))]
+    fn try_from(grams: u16) -> Result<Increment, BadSetting> {
         if matches!(grams, 1 | 2 | 5 | 10 | 20 | 50 | 100 | 200 | 500 | 1000) {
             Ok(Increment { grams })
         } else {
             Err(BadSetting::UnknownIncrement)
         }
     }
+}
 
+impl Increment {
     // The grams of the increment.
     pub fn grams(self) -> u16
         ensures { result ≡ self.grams }

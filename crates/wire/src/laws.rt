@@ -6,10 +6,12 @@ pub fn rounding_laws()
     ensures { RoundingLaws }
 {}
 
+#[tactic(auto, using(crate::proofs::Arrangements::order_laws))]
 pub fn order_laws()
     ensures { OrderLaws }
 {}
 
+#[tactic(auto, using(crate::proofs::Arrangements::image_laws))]
 pub fn image_laws()
     ensures { ImageLaws }
 {}

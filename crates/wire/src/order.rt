@@ -1,7 +1,7 @@
 // The order setting: how the words and bytes of a block are arranged on the wire.
 ghost use Rattle.std.specs.Prelude.{◌≡◌};
 ghost use Rattle.wire.specs.Settings.{order_of};
-ghost use Rattle.wire.specs.Orders.{swaps_bytes, swaps_words, place};
+ghost use Rattle.wire.specs.Orders.{swaps_bytes, swaps_words};
 
 use crate::setting::BadSetting;
 
@@ -15,11 +15,13 @@ pub enum Order {
     BothSwapped,
 }
 
-impl Order {
-    // The order with this number, or the refusal of a number above 3.
-    pub fn from_number(number: u8) -> Result<Order, BadSetting>
-        ensures { result ≡ order_of number }
-    {
+// The order with this number, or the refusal of a number above 3.
+impl TryFrom<u8> for Order {
+    type Error = BadSetting;
+
+    ghost try_from_gives = { λ number order. order ≡ order_of number };
+
+    fn try_from(number: u8) -> Result<Order, BadSetting> {
         match number {
             0 => Ok(Order::Plain),
             1 => Ok(Order::BytesSwapped),
@@ -28,41 +30,20 @@ impl Order {
             _ => Err(BadSetting::UnknownOrder),
         }
     }
+}
 
+impl Order {
     // Whether each word has its low byte first.
     pub(crate) fn swaps_bytes(self) -> bool
         ensures { result ≡ swaps_bytes self }
     {
-        match self {
-            Order::BytesSwapped | Order::BothSwapped => true,
-            Order::Plain | Order::WordsSwapped => false,
-        }
+        matches!(self, Order::BytesSwapped | Order::BothSwapped)
     }
 
     // Whether a float has its low word first.
     pub(crate) fn swaps_words(self) -> bool
         ensures { result ≡ swaps_words self }
     {
-        match self {
-            Order::WordsSwapped | Order::BothSwapped => true,
-            Order::Plain | Order::BytesSwapped => false,
-        }
-    }
-
-    // The place of a block's byte in this order, given its place in order 0, and the other way round:
-    // the value fills the first four bytes, and only there do words trade places.
-    pub(crate) fn place(self, byte: usize) -> usize
-        ensures { result ≡ place self byte }
-    {
-        let at = if self.swaps_words() && byte < 4 {
-            (byte + 2) % 4
-        } else {
-            byte
-        };
-        if self.swaps_bytes() {
-            at / 2 * 2 + (1 - at % 2)
-        } else {
-            at
-        }
+        matches!(self, Order::WordsSwapped | Order::BothSwapped)
     }
 }

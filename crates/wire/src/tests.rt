@@ -7,10 +7,9 @@ use crate::rounding::round;
 use crate::setting::BadSetting;
 
 fn rounded(weight: i32, grams: u16) -> Option<i64> {
-    match Increment::from_grams(grams) {
-        Ok(increment) => Some(round(weight, increment)),
-        Err(_) => None,
-    }
+    Increment::try_from(grams)
+        .ok()
+        .map(|increment| round(weight, increment))
 }
 
 #[test]
@@ -26,10 +25,10 @@ fn refuses_unknown_settings(rt: HostRuntime) {
     assert_eq!(rt; rounded(7, 1000), Some(0));
     assert_eq!(rt; rounded(7, 0), None);
     assert_eq!(rt; rounded(7, 2000), None);
-    assert_eq!(rt; Order::from_number(3), Ok(Order::BothSwapped));
-    assert_eq!(rt; Order::from_number(4), Err(BadSetting::UnknownOrder));
-    assert_eq!(rt; BadSetting::UnknownOrder.number(), 41);
-    assert_eq!(rt; BadSetting::UnknownIncrement.number(), 42);
+    assert_eq!(rt; Order::try_from(3), Ok(Order::BothSwapped));
+    assert_eq!(rt; Order::try_from(4), Err(BadSetting::UnknownOrder));
+    assert_eq!(rt; u8::from(BadSetting::UnknownOrder), 41);
+    assert_eq!(rt; u8::from(BadSetting::UnknownIncrement), 42);
 }
 
 #[test]

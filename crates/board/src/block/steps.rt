@@ -1,18 +1,21 @@
 // What a block does with what a tend tells, and with a command word.
 ghost use Rattle.std.specs.Prelude.{◌≡◌, ◌^◌, ◌<◌, ◌-ℤ◌, unsigned_abs};
 ghost use Rattle.board.specs.Registers.{compares, shown, posted, open_word};
+ghost use Rattle.board.specs.Responses.{word_of};
 ghost use Rattle.board.specs.Dues.{due_of, closing, leaving};
 ghost use Rattle.board.specs.Judging.{verdict_on, step_of, taken_as, opened_as, second_step};
 
 use super::{Block, State};
 use crate::command::{Class, StepWord};
+use crate::list::WEIGHT_TEST;
 use crate::report::Report;
+use crate::response::Response;
 use weigher::{Order, Told};
 
 // A response that the open command is due, and the state that it leaves.
 #[derive(Clone, Copy)]
 pub struct Due {
-    pub(crate) response: u16,
+    pub(crate) response: Response,
     pub(crate) state: State,
     // What the weight test found, where it ends.
     pub(crate) deviation: Option<i64>,
@@ -22,7 +25,8 @@ pub struct Due {
 #[derive(Clone, Copy)]
 pub struct Judged {
     pub(crate) word: u16,
-    // Bit 15 or a channel bit is set, or the channel mask is neither 0 nor 1.
+    // Bit 15 or a channel bit is set, or the channel mask is neither 0 nor 1. A flag beside the class, and no case of it,
+    // since a step word goes by its class whatever the mask is.
     pub(crate) flawed: bool,
     pub(crate) class: Option<Class>,
     // The value written, if it is whole.
@@ -34,7 +38,7 @@ pub struct Judged {
 pub enum Verdict {
     Ignored,
     // The word is taken and closed at once.
-    Closed { response: u16 },
+    Closed { response: Response },
     // Likewise, and the value shows this report from here on.
     Selected { report: Report },
     // The word is taken and begins an order; the state is that of the command while it stands.
@@ -51,43 +55,43 @@ impl Block {
         ensures { result ≡ due_of self.now.state told gross }
     {
         match (self.state, told) {
-            (State::Cancelling { .. }, _) => Some(Due::closing(0x8010)),
-            (State::Working { word }, Told::Done) => Some(Due::closing(word)),
-            (State::Working { .. }, Told::NotPossible) => Some(Due::closing(0x8001)),
-            (State::Working { .. }, Told::Late) => Some(Due::closing(0x8002)),
+            (State::Cancelling { .. }, _) => Some(Due::closing(Response::Aborted)),
+            (State::Working { word }, Told::Done) => Some(Due::closing(Response::Done(word))),
+            (State::Working { .. }, Told::NotPossible) => Some(Due::closing(Response::NotPossible)),
+            (State::Working { .. }, Told::Late) => Some(Due::closing(Response::Late)),
             (State::FirstStep, Told::Done) => Some(Due::step(
-                2045,
+                Response::StepDone,
                 State::Between { empty: gross },
             )),
             (State::FirstStep, Told::NotPossible | Told::Late) => {
-                Some(Due::step(0x8020, State::FirstFailed))
+                Some(Due::step(Response::StepFailed, State::FirstFailed))
             }
             (State::SecondStep { empty, value }, Told::Done) => Some(Due {
-                response: 440,
+                response: Response::Done(WEIGHT_TEST),
                 state: State::Ready,
                 deviation: Some(deviation(gross, empty, value)),
             }),
             (State::SecondStep { empty, .. }, Told::NotPossible | Told::Late) => {
-                Some(Due::step(0x8020, State::SecondFailed { empty }))
+                Some(Due::step(Response::StepFailed, State::SecondFailed { empty }))
             }
             _ => None,
         }
     }
 
     // Posts a response, after which the command is in this state.
-    pub(crate) fn post(&mut self, response: u16, state: State)
-        ensures { self.new ≡ posted response state self.old }
+    pub(crate) fn post(&mut self, response: Response, state: State)
+        ensures { self.new ≡ posted (word_of response) state self.old }
     {
-        self.response = response;
+        self.response = response.into();
         self.sequence = (self.sequence % 4 + 1) % 4;
         self.state = state;
     }
 
     // Shows a response without posting it.
-    pub(crate) fn show(&mut self, response: u16, state: State)
-        ensures { self.new ≡ shown response state self.old }
+    pub(crate) fn show(&mut self, response: Response, state: State)
+        ensures { self.new ≡ shown (word_of response) state self.old }
     {
-        self.response = response;
+        self.response = response.into();
         self.state = state;
     }
 
@@ -102,7 +106,7 @@ impl Block {
             | State::FirstFailed
             | State::Between { .. }
             | State::SecondStep { .. }
-            | State::SecondFailed { .. } => Some(440),
+            | State::SecondFailed { .. } => Some(WEIGHT_TEST),
         }
     }
 
@@ -122,7 +126,7 @@ impl Block {
                 | State::SecondStep { .. }
                 | State::SecondFailed { .. },
                 Some(StepWord::Cancel),
-            ) => Verdict::Cancelled { word: 440 },
+            ) => Verdict::Cancelled { word: WEIGHT_TEST },
             (State::FirstFailed, Some(StepWord::Retry)) => Verdict::Started {
                 state: State::FirstStep,
                 failed: State::FirstFailed,
@@ -152,14 +156,14 @@ fn difference(a: i32, b: i32) -> i64
 
 impl Due {
     // The response that closes the command.
-    fn closing(response: u16) -> Due
+    fn closing(response: Response) -> Due
         ensures { result ≡ closing response }
     {
         Due::step(response, State::Ready)
     }
 
     // A response after which the command is in this state.
-    fn step(response: u16, state: State) -> Due
+    fn step(response: Response, state: State) -> Due
         ensures { result ≡ leaving response state }
     {
         Due {
@@ -186,17 +190,25 @@ impl Judged {
         ensures { result ≡ taken_as self }
     {
         if self.flawed {
-            return Verdict::Closed { response: 0x8001 };
+            return Verdict::Closed {
+                response: Response::NotPossible,
+            };
         }
         match self.class {
-            None => Verdict::Closed { response: 0x8004 },
-            Some(Class::Step(_)) => Verdict::Closed { response: 0x8001 },
+            None => Verdict::Closed {
+                response: Response::NotKnown,
+            },
+            Some(Class::Step(_)) => Verdict::Closed {
+                response: Response::NotPossible,
+            },
             Some(Class::Report(report)) => Verdict::Selected { report },
             Some(Class::NoOperation) => Verdict::Closed {
-                response: self.word,
+                response: Response::Done(self.word),
             },
             Some(Class::PresetTare) => match self.value {
-                None => Verdict::Closed { response: 0x8008 },
+                None => Verdict::Closed {
+                    response: Response::BadValue,
+                },
                 Some(v) => self.opened(Order::PresetTare(v)),
             },
             Some(Class::Order(order)) => self.opened(order),

@@ -6,6 +6,7 @@ ghost use Rattle.board.specs.Boards.{new_inner, look_of, attribute_report, reply
 ghost use Rattle.board.specs.Declines.{decline_of, read_decline};
 
 use super::Board;
+use crate::address::Address;
 use crate::block::{Block, State};
 use crate::declined::Declined;
 use crate::inner::Inner;
@@ -21,13 +22,9 @@ const CLASS: u16 = 0x300;
 fn new_inner(settings: Settings) -> Inner
     ensures { result ≡ new_inner settings }
 {
-    let report = Report {
-        quantity: Quantity::Gross,
-        rounded: true,
-    };
     let block = Block {
         compared: 0,
-        report,
+        report: Report::GROSS_ROUNDED,
         response: 0,
         sequence: 0,
         state: State::Ready,
@@ -41,7 +38,7 @@ fn new_inner(settings: Settings) -> Inner
 }
 
 // The report that an attribute holds.
-fn attribute_report(attribute: u8) -> Option<Report>
+pub fn attribute_report(attribute: u8) -> Option<Report>
     ensures { result ≡ attribute_report attribute }
 {
     let (quantity, rounded) = match attribute {
@@ -60,8 +57,8 @@ impl<W: Weigher> Board<W> {
     // A board on this weigher, whose order is dropped if one stands.
     pub fn new(mut weigher: W, settings: Settings) -> Board<W>
         ensures inner { result.inner ≡ new_inner settings }
-        ensures weigher { W.Weigher.meaning result.weigher ≡ (dropped (W.Weigher.meaning weigher)).1 }
-        ensures sensor { W.Weigher.keeps weigher result.weigher }
+        ensures weigher { W.kind.meaning result.weigher ≡ (dropped (W.kind.meaning weigher)).1 }
+        ensures sensor { W.kind.keeps weigher result.weigher }
     {
         let _ = weigher.drop();
         Board {
@@ -72,13 +69,13 @@ impl<W: Weigher> Board<W> {
 
     // The weigher's load.
     pub fn load(&self) -> i32
-        ensures { result ≡ (W.Weigher.meaning self.now.weigher).load }
+        ensures { result ≡ (W.kind.meaning self.now.weigher).load }
     {
         self.weigher.look().load
     }
 
     pub fn look(&self) -> Look
-        ensures { result ≡ look_of self.now.inner (W.Weigher.meaning self.now.weigher) }
+        ensures { result ≡ look_of self.now.inner (W.kind.meaning self.now.weigher) }
     {
         let view = self.weigher.look();
         Look {
@@ -90,23 +87,17 @@ impl<W: Weigher> Board<W> {
     }
 
     // Fills a strip of four bytes with the value that an address holds.
-    pub fn read(
-        &self,
-        class: u16,
-        instance: u8,
-        attribute: u8,
-        strip: &mut [u8],
-    ) -> Result<(), Declined>
-        ensures declines { decline_of result ≡ read_decline class instance attribute (length strip.old) }
-        ensures cases { MatchResult result (λ _. (report : ReportOf) × (attribute_report attribute ≡ Some report) × (strip.new ≡ reply_of self.now.inner (W.Weigher.meaning self.now.weigher) report)) (λ _. strip.new ≡ strip.old) }
+    pub fn read(&self, address: Address, strip: &mut [u8]) -> Result<(), Declined>
+        ensures declines { decline_of result ≡ read_decline address (length strip.old) }
+        ensures cases { MatchResult result (λ _. (report : ReportOf) × (attribute_report address.attribute ≡ Some report) × (strip.new ≡ reply_of self.now.inner (W.kind.meaning self.now.weigher) report)) (λ _. strip.new ≡ strip.old) }
     {
-        if class != CLASS {
+        if address.class != CLASS {
             return Err(Declined::NoClass);
         }
-        if instance != 1 {
+        if address.instance != 1 {
             return Err(Declined::NoInstance);
         }
-        let Some(report) = attribute_report(attribute) else {
+        let Some(report) = attribute_report(address.attribute) else {
             return Err(Declined::NoAttribute);
         };
         if strip.len() != 4 {

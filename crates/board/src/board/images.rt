@@ -14,7 +14,7 @@ use wire::{MeasuringBlockRead, float_of, round};
 
 impl<W: Weigher> Board<W> {
     pub(crate) fn gross(&self) -> i32
-        ensures value { result ≡ gross (W.Weigher.meaning self.now.weigher) }
+        ensures value { result ≡ gross (W.kind.meaning self.now.weigher) }
         ensures bound { unsigned_abs result ≤ 4080000 }
     {
         let view = self.weigher.look();
@@ -22,7 +22,7 @@ impl<W: Weigher> Board<W> {
     }
 
     fn net(&self) -> i32
-        ensures { result ≡ net (W.Weigher.meaning self.now.weigher) }
+        ensures { result ≡ net (W.kind.meaning self.now.weigher) }
     {
         self.gross() - self.weigher.look().tare
     }
@@ -40,7 +40,7 @@ impl<W: Weigher> Board<W> {
 
     // The value of a report.
     pub(crate) fn value(&self, report: Report) -> i64
-        ensures { result ≡ report_of self.now.inner.settings.increment.grams report self.now.inner.deviation (W.Weigher.meaning self.now.weigher) }
+        ensures { result ≡ report_of self.now.inner.settings.increment.grams report self.now.inner.deviation (W.kind.meaning self.now.weigher) }
     {
         match report.quantity {
             Quantity::Gross => self.weight(self.gross(), report.rounded),
@@ -51,7 +51,7 @@ impl<W: Weigher> Board<W> {
     }
 
     fn status(&self) -> Status
-        ensures { result ≡ status_of self.now.inner (W.Weigher.meaning self.now.weigher) }
+        ensures { result ≡ status_of self.now.inner (W.kind.meaning self.now.weigher) }
     {
         let view = self.weigher.look();
         let increment = u32::from(self.inner.settings.increment.grams());
@@ -61,17 +61,17 @@ impl<W: Weigher> Board<W> {
             fault: view.fault,
             centred: 4 * self.gross().unsigned_abs() <= increment,
             still: view.still,
-            tared: view.tare.unsigned_abs() != 0,
+            tared: view.tare != 0,
         }
     }
 
     // The read image.
     pub(crate) fn image(&self) -> [u8; 8]
-        ensures { result ≡ image_of self.now.inner (W.Weigher.meaning self.now.weigher) }
+        ensures { result ≡ image_of self.now.inner (W.kind.meaning self.now.weigher) }
     {
         let block = MeasuringBlockRead {
             value: float_of(self.value(self.inner.block.report)),
-            status: self.status().word(),
+            status: self.status().into(),
             response: self.inner.block.response,
         };
         block.to_image(self.inner.settings.order)

@@ -10,18 +10,21 @@ use crate::declined::Declined;
 use crate::list::class_of;
 use crate::note::Note;
 use weigher::{Told, Weigher};
-use wire::{MeasuringBlockWritten, Order, whole};
+use wire::{MeasuringBlockWritten, whole};
 
-// The command word of a write image, with what it is judged by.
-fn judged_in(image: [u8; 8], order: Order) -> Judged
-    ensures { result ≡ judged_in order image }
-{
-    let written = MeasuringBlockWritten::from_image(image, order);
-    Judged {
-        word: written.command,
-        flawed: written.command >= 2048 || written.mask >= 2,
-        class: class_of(written.command),
-        value: whole(written.value),
+// The command word of a block written, with what it is judged by.
+impl From<MeasuringBlockWritten> for Judged {
+    ghost use Rattle.board.specs.Scans.{judged_of};
+
+    ghost from_gives = { λ written judged. judged ≡ judged_of written };
+
+    fn from(written: MeasuringBlockWritten) -> Judged {
+        Judged {
+            word: written.command,
+            flawed: written.command >= 2048 || written.mask >= 2,
+            class: class_of(written.command),
+            value: whole(written.value),
+        }
     }
 }
 
@@ -45,24 +48,24 @@ impl<W: Weigher> Board<W> {
 
     // Judges the command word of a write image if it differs from the compared word.
     fn judge(&mut self, image: [u8; 8]) -> Note
-        ensures work { (self.new.inner, result, W.Weigher.meaning self.new.weigher) ≡ judged W.Weigher.patience self.old.inner (W.Weigher.meaning self.old.weigher) (judged_in self.old.inner.settings.order image) }
-        ensures sensor { W.Weigher.keeps self.old.weigher self.new.weigher }
+        ensures work { (self.new.inner, result, W.kind.meaning self.new.weigher) ≡ judged W.kind.patience self.old.inner (W.kind.meaning self.old.weigher) (judged_in self.old.inner.settings.order image) }
+        ensures sensor { W.kind.keeps self.old.weigher self.new.weigher }
     {
-        let order = self.inner.settings.order;
-        let written = MeasuringBlockWritten::from_image(image, order);
+        let written = MeasuringBlockWritten::from_image(image, self.inner.settings.order);
         if written.command == self.inner.block.compared {
             return Note::nothing();
         }
-        let word = judged_in(image, order);
         let capacity = self.weigher.look().capacity;
-        let verdict = self.inner.block.judge(word, capacity);
-        self.act(word.word, verdict)
+        let verdict = self.inner.block.judge(written.into(), capacity);
+        self.inner
+            .block
+            .act(&mut self.weigher, written.command, verdict)
     }
 
     // Posts what is due after a tend that told this, or else judges the command word.
     fn respond(&mut self, told: Told, image: [u8; 8]) -> Note
-        ensures work { (self.new.inner, result, W.Weigher.meaning self.new.weigher) ≡ responded W.Weigher.patience self.old.inner told (W.Weigher.meaning self.old.weigher) (judged_in self.old.inner.settings.order image) }
-        ensures sensor { W.Weigher.keeps self.old.weigher self.new.weigher }
+        ensures work { (self.new.inner, result, W.kind.meaning self.new.weigher) ≡ responded W.kind.patience self.old.inner told (W.kind.meaning self.old.weigher) (judged_in self.old.inner.settings.order image) }
+        ensures sensor { W.kind.keeps self.old.weigher self.new.weigher }
     {
         match self.inner.block.due(told, self.gross()) {
             Some(due) => self.pay(due),
@@ -72,7 +75,7 @@ impl<W: Weigher> Board<W> {
 
     // All of an answered scan but the read image.
     fn answer(&mut self, image: [u8; 8]) -> Note
-        ensures { Scanned W.Weigher.meaning W.Weigher.moves W.Weigher.keeps W.Weigher.patience self.old.weigher self.old.inner image self.new.weigher self.new.inner result }
+        ensures { Scanned W.kind self.old image self.new result }
     {
         let told = self.weigher.tend();
         let note = self.respond(told, image);
@@ -83,7 +86,7 @@ impl<W: Weigher> Board<W> {
     // Answers a write image by a read image, or declines strips of another size.
     pub fn scan(&mut self, write: &[u8], read: &mut [u8]) -> Result<Note, Declined>
         ensures declines { decline_of result ≡ scan_decline (length write.now) (length read.old) }
-        ensures cases { MatchResult result (λ n. Scanned W.Weigher.meaning W.Weigher.moves W.Weigher.keeps W.Weigher.patience self.old.weigher self.old.inner write.now self.new.weigher self.new.inner n × (read.new ≡ image_of self.new.inner (W.Weigher.meaning self.new.weigher))) (λ _. (self.new ≡ self.old) × (read.new ≡ read.old)) }
+        ensures cases { MatchResult result (λ n. Scanned W.kind self.old write.now self.new n × (read.new ≡ image_of self.new.inner (W.kind.meaning self.new.weigher))) (λ _. (self.new ≡ self.old) × (read.new ≡ read.old)) }
     {
         let Ok(image) = <[u8; 8]>::try_from(write) else {
             return Err(Declined::WriteMisfit);

@@ -1,4 +1,5 @@
 // A run into a journal that is lent, with what it then holds.
+use crate::address::Address;
 use crate::journal::{Answer, Call, Entry};
 use crate::runs::run_into;
 use crate::setting::Settings;
@@ -22,7 +23,7 @@ fn shown(entry: Entry) -> Option<[u8; 8]> {
 
 fn declined(entry: Entry) -> Option<u8> {
     match entry.answer {
-        Answer::Declined(declined) => Some(declined.number()),
+        Answer::Declined(declined) => Some(u8::from(declined)),
         _ => None,
     }
 }
@@ -54,9 +55,11 @@ fn tares(rt: HostRuntime) -> Result<(), Fail> {
         scan(&net, 70),
         scan(&tare, 8),
         Call::Read {
-            class: 0x300,
-            instance: 1,
-            attribute: 8,
+            address: Address {
+                class: 0x300,
+                instance: 1,
+                attribute: 8,
+            },
             reply: 4,
         },
         scan(&net, 8),

@@ -1,5 +1,5 @@
 // What all kinds of weigher do alike: look, begin, carrying an order out, counting tends, and drop.
-ghost use Rattle.std.specs.Prelude.{◌≡◌, ◌≤◌, true, nat_le, unsigned_abs};
+ghost use Rattle.std.specs.Prelude.{◌≡◌, ◌≤◌, true, is_none};
 ghost use Rattle.weigher.specs.Answers.{decline_of};
 ghost use Rattle.weigher.specs.Scale.{view_of};
 ghost use Rattle.weigher.specs.Rules.{begun, dropped, preset_fits, carried, tared, zeroed, worked, sensed, SameReading};
@@ -8,22 +8,17 @@ ghost use Rattle.weigher.specs.Fresh.{fresh};
 
 use super::Base;
 use crate::answers::{Declined, Told, View};
+use crate::load::Load;
 use crate::orders::{Order, Standing};
-
-// What a sensor reads in one tend.
-#[derive(Clone, Copy)]
-pub(crate) struct Reading {
-    pub(crate) load: i32,
-    pub(crate) still: bool,
-    pub(crate) fault: bool,
-    ghost load_in_range: { unsigned_abs load ≤ 4000000 },
-}
+use crate::reading::Reading;
 
 impl Base {
+    ghost use Rattle.weigher.specs.Readings.{load_read, still_read};
+
     // No order stands, zero and tare are 0, and the weigher is moving and without fault.
-    pub(crate) fn new(load: i32, capacity: u32) -> Base
-        requires { (unsigned_abs load ≤ 4000000) × ((1 ≤ capacity) × (capacity ≤ 4000000)) }
-        ensures { scale_of result ≡ fresh load capacity }
+    pub(crate) fn new(load: Load, capacity: u32) -> Base
+        requires { (1 ≤ capacity) × (capacity ≤ 4000000) }
+        ensures { scale_of result ≡ fresh load.grams capacity }
     {
         Base {
             load,
@@ -36,7 +31,7 @@ impl Base {
         }
     }
 
-    pub(crate) fn load(&self) -> i32
+    pub(crate) fn load(&self) -> Load
         ensures { result ≡ self.now.load }
     {
         self.load
@@ -46,7 +41,7 @@ impl Base {
         ensures { result ≡ view_of (scale_of self.now) }
     {
         View {
-            load: self.load,
+            load: self.load.grams,
             zero: self.zero,
             tare: self.tare,
             still: self.still,
@@ -83,16 +78,14 @@ impl Base {
         Ok(())
     }
 
-    // A tend in which the sensor read this.
-    pub(crate) fn tend(&mut self, reading: Reading) -> Told
+    // A tend in which the sensor read this, or nothing for a fault: then the load stays, and the weigher is not still.
+    pub(crate) fn tend(&mut self, reading: Option<Reading>) -> Told
         ensures work { (result, scale_of self.new) ≡ worked (sensed (scale_of self.old) (scale_of self.new)) }
-        ensures load { self.new.load ≡ reading.load }
-        ensures still { self.new.still ≡ reading.still }
-        ensures fault { self.new.fault ≡ reading.fault }
+        ensures load { self.new.load.grams ≡ load_read self.old.load.grams reading }
+        ensures still { self.new.still ≡ still_read reading }
+        ensures fault { self.new.fault ≡ is_none reading }
     {
-        self.load = reading.load;
-        self.still = reading.still;
-        self.fault = reading.fault;
+        self.sense(reading);
         let Some(Standing { order, left }) = self.standing else {
             return Told::Idle;
         };
@@ -112,6 +105,23 @@ impl Base {
         Told::Waiting
     }
 
+    // Takes over what the sensor read.
+    fn sense(&mut self, reading: Option<Reading>)
+        ensures load { self.new.load.grams ≡ load_read self.old.load.grams reading }
+        ensures still { self.new.still ≡ still_read reading }
+        ensures fault { self.new.fault ≡ is_none reading }
+        ensures rest { scale_of self.new ≡ sensed (scale_of self.old) (scale_of self.new) }
+        ensures order { self.new.standing ≡ self.old.standing }
+    {
+        self.fault = reading.is_none();
+        self.still = false;
+        if let Some(reading) = reading {
+            self.load = reading.load;
+            self.still = reading.still;
+        }
+    }
+
+    // Each of these three says what the sensor read stays: without it the proof of `tend` did not close.
     fn carry_out(&mut self, order: Order) -> Told
         requires { preset_fits order self.old.capacity ≡ true }
         ensures work { (result, scale_of self.new) ≡ carried order (scale_of self.old) }
@@ -137,7 +147,7 @@ impl Base {
         ensures work { (result, scale_of self.new) ≡ tared (scale_of self.old) }
         ensures sensor { SameReading (scale_of self.old) (scale_of self.new) }
     {
-        let gross = self.load - self.zero;
+        let gross = self.load.grams - self.zero;
         if gross < 0 {
             return Told::NotPossible;
         }
@@ -150,27 +160,20 @@ impl Base {
         ensures work { (result, scale_of self.new) ≡ zeroed (scale_of self.old) }
         ensures sensor { SameReading (scale_of self.old) (scale_of self.new) }
     {
-        if self.load.unsigned_abs() * 50 > self.capacity {
+        if self.load.grams.unsigned_abs() * 50 > self.capacity {
             return Told::NotPossible;
         }
-        self.zero = self.load;
+        self.zero = self.load.grams;
         self.tare = 0;
         Told::Done
     }
-}
-
-// Whether a load lies within the range that every weigher keeps to.
-pub(crate) fn in_range(load: i32) -> bool
-    ensures { result ≡ nat_le (unsigned_abs load) 4000000 }
-{
-    load.unsigned_abs() <= 4_000_000
 }
 
 fn preset_fits(order: Order, capacity: u32) -> bool
     ensures { result ≡ preset_fits order capacity }
 {
     match order {
-        Order::PresetTare(v) => 0 <= v && v as i64 <= capacity as i64,
+        Order::PresetTare(v) => 0 <= v && i64::from(v) <= i64::from(capacity),
         Order::TareWhenStill
         | Order::ZeroWhenStill
         | Order::TareNow

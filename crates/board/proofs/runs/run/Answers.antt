@@ -8,7 +8,6 @@ use Rattle.board.proofs.runs.run.Goals as goal
 
 pub returns : goal.returns
 returns g c =
-    let m = g.W.Weigher in
     let long = c.as_mut_slice.ensures.len in
-    let p : List Call → List Entry → Type 0 = λ cs es. Promise m.meaning m.moves m.keeps m.patience c.args.settings c.args.weigher cs c.run_into-start.result es in
+    let p : List Call → List Entry → Type 0 = λ cs es. Promise g.W.Weigher.kind c.args.settings c.args.weigher cs c.run_into-start.result es in
     lent p c.args.calls.now c.as_mut_slice.result.now c.run_into-start.new.journal _ _ (long ∙ c.in_ok-entries.ensures.len) c.run_into-start.auto.journal (sym long) c.run_into-start.ensures.promise

@@ -1,11 +1,13 @@
-use Rattle.std.proofs.Common.{vec_items}
-use Rattle.drivefile.proofs.Reading.{reads_none, reads_more}
+use Rattle.std.proofs.Common.{refl, ◌∙◌}
+use Rattle.drivefile.specs.Drives.{none, more}
 use Rattle.drivefile.proofs.calls.read_calls.Goals as goal
 
-pub loop-tail-init : goal.loop-tail-init
-loop-tail-init c = reads_none c.args.file.now c.args.from _ c.new-calls.ensures.items
+pub loop-call-init : goal.loop-call-init
+loop-call-init c = (rw c.new-calls.ensures.items none, refl)
 
-pub loop-tail-preserved : goal.loop-tail-preserved
-loop-tail-preserved c =
-    let e = c.in-Ok.ensures in
-    reads_more c.args.file.now c.args.from (vec_items c.loop-tail.calls) _ c.loop-tail.place c.in-Ok.after c.in-Ok.call e.0 e.1 c.loop-tail.invariant e.2 e.3 e.4 c.in_ok-push-in-Ok.ensures.items
+pub loop-call-preserved : goal.loop-call-preserved
+loop-call-preserved c =
+    let e = c.in-Ok-Some.ensures in
+    let i = c.loop-call.invariant in
+    let m = rw (c.in-Ok-Some.field-0-is, i.1) at e.call in
+    (rw (c.in_ok-push-in-Ok-Some.ensures.items, m.4) (more _ _ _ _ _ i.0 m.2 m.3), e.file ∙ i.1)

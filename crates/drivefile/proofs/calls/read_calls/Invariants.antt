@@ -1,10 +1,10 @@
-use Rattle.std.proofs.Common.{◌-◌, length, vec_items}
+use Rattle.std.proofs.Common.{◌≡◌, ◌-◌, length, vec_items}
 use Rattle.drivefile.specs.Drives.{Reads}
 use Rattle.drivefile.proofs.calls.read_calls.Given as goal
 
 -- the calls so far are those of the records so far
-abbrev pub invariant-loop-tail : goal.invariant-loop-tail
-invariant-loop-tail l = Reads l.file l.from (vec_items l.calls) l.place
+abbrev pub invariant-loop-call : goal.invariant-loop-call
+invariant-loop-call l = Reads l.fn.reader.file.now l.fn.reader.place (vec_items l.calls) l.reader.place × (l.reader.file.now ≡ l.fn.reader.file.now)
 
-abbrev pub decreases-loop-tail : goal.decreases-loop-tail
-decreases-loop-tail l = length l.file - l.place
+abbrev pub decreases-loop-call : goal.decreases-loop-call
+decreases-loop-call l = length l.reader.file.now - l.reader.place

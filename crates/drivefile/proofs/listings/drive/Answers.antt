@@ -1,6 +1,6 @@
--- The calls that are made are those that were read.
-use Rattle.std.proofs.Common.{List, vec_items, subst}
-use Rattle.weigher.specs.Ramps.{ramp_scale, RampMoved, RampKept}
+-- The calls that are made are those that were read, from the third record on.
+use Rattle.std.proofs.Common.{List, vec_items, ◌∙◌, subst}
+use Rattle.weigher.specs.Ramps.{ramp_kind}
 use Rattle.board.specs.declared.journal.Call.{Call}
 use Rattle.board.specs.Promise.{Promise}
 use Rattle.drivefile.proofs.listings.drive.Goals as goal
@@ -8,8 +8,10 @@ use Rattle.drivefile.proofs.listings.drive.Goals as goal
 pub returns : goal.returns
 returns c =
     let head = c.in_ok-head.head in
-    let h = c.in_ok-head.ensures in
-    let r = c.in_ok-calls.ensures in
+    let given = c.new-reader.ensures.file in
+    let read = c.in_ok-head.ensures.file ∙ given in
+    let h = rw given at c.in_ok-head.ensures.told in
+    let r = rw (read, c.in_ok-head.ensures.place) at c.in_ok-calls.ensures in
     let j = c.in_ok-journal.journal in (
       h.0,
       record {
@@ -18,6 +20,6 @@ returns c =
         place = r.0;
         reads = r.1;
         ends = r.2;
-        promise = subst (λ (calls : List Call). Promise ramp_scale RampMoved RampKept 50 head.settings head.ramp calls j.start (vec_items j.entries)) c.as_slice.ensures.value c.in_ok-journal.ensures;
+        promise = subst (λ (calls : List Call). Promise ramp_kind head.settings head.ramp calls j.start (vec_items j.entries)) c.as_slice.ensures.value c.in_ok-journal.ensures;
       },
     )

@@ -1,40 +1,19 @@
-use Rattle.std.proofs.Common.{◌≡◌, vec_items, inl, inr}
-use Rattle.replay.specs.declared.failure.Failure.{Failure}
-use Rattle.replay.specs.declared.failure.Failure.TheVariants.{Memory}
+use Rattle.std.proofs.Common.{inl, inr}
+use Rattle.std.proofs.lemmas.Result.{err_from_is_err_and}
 use Rattle.replay.specs.Replays.{Unlisted}
 use Rattle.replay.proofs.Apart.{listed_or_memory}
-use Rattle.replay.proofs.Lines.{hands_on, makes_none}
 use Rattle.replay.proofs.listing.replay.Goals as goal
 
-pub returns-in_err-recording : goal.returns-in_err-recording
-returns-in_err-recording c =
+pub returns-in_err-recording-clause-taken : goal.returns-in_err-recording-clause-taken
+returns-in_err-recording-clause-taken c =
     let f = c.in_err-recording.field-0.0 in
-    let bs = c.args.text.now in
-    let why : Unlisted bs f = inl c.in_err-recording.ensures.refused in
-    let handed = c.from_residual.ensures.1 in
-    record {
-      listed = makes_none c.from_residual.result f _ handed;
-      refused = hands_on c.from_residual.result f (Unlisted bs) handed why;
-      taken = λ g. hands_on c.from_residual.result f (λ (e : Failure). e ≡ Memory) handed (listed_or_memory bs f why g);
-    }
+    let why : Unlisted c.args.text.now f = inl c.in_err-recording.ensures in
+    let p = err_from_is_err_and c.from_residual.result c.from_residual.ensures.1 in
+    λ good. rw (p.1, p.2) (listed_or_memory c.args.text.now f why good)
 
-pub returns-in_err-journal : goal.returns-in_err-journal
-returns-in_err-journal c =
+pub returns-in_err-journal-clause-taken : goal.returns-in_err-journal-clause-taken
+returns-in_err-journal-clause-taken c =
     let f = c.in_err-journal.field-0.0 in
-    let bs = c.args.text.now in
-    let recording = c.in_ok-recording.recording in
-    let why : Unlisted bs f =
-    inr (record {
-      capacity = recording.capacity;
-      tolerance = recording.tolerance;
-      order = recording.order;
-      samples = vec_items recording.samples;
-      recorded = c.in_ok-recording.ensures.in_lines;
-      declined = c.in_err-journal.ensures.refused;
-    }) in
-    let handed = c.from_residual-in_err-journal.ensures.1 in
-    record {
-      listed = makes_none c.from_residual-in_err-journal.result f _ handed;
-      refused = hands_on c.from_residual-in_err-journal.result f (Unlisted bs) handed why;
-      taken = λ g. hands_on c.from_residual-in_err-journal.result f (λ (e : Failure). e ≡ Memory) handed (listed_or_memory bs f why g);
-    }
+    let why : Unlisted c.args.text.now f = inr (record { contents = c.in_ok-recording.recording; recorded = c.in_ok-recording.ensures; declined = c.in_err-journal.ensures.refused }) in
+    let p = err_from_is_err_and c.from_residual-in_err-journal.result c.from_residual-in_err-journal.ensures.1 in
+    λ good. rw (p.1, p.2) (listed_or_memory c.args.text.now f why good)

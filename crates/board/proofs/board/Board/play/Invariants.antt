@@ -5,6 +5,5 @@ use Rattle.board.proofs.board.Board.play.Given as goal
 -- the entries so far are those of the calls so far, and the rest of the journal is as it was
 abbrev pub invariant-loop-i : goal.invariant-loop-i
 invariant-loop-i g l =
-    let m = g.W.Weigher in
-    Played m.meaning m.moves m.keeps m.patience l.initial.self.weigher l.initial.self.inner (take l.i l.calls) (take l.i l.journal) l.self.weigher l.self.inner
+    Played g.W.Weigher.kind l.initial.self (take l.i l.calls) (take l.i l.journal) l.self
     × ((k : ℕ) → l.i ≤ k → drop k l.journal ≡ drop k l.initial.journal)

@@ -4,7 +4,7 @@ use Rattle.weigher.proofs.sealed.SealedWeigher.tend.Goals as goal
 
 pub returns : goal.returns
 returns g c =
-    let m = g.W.Weigher.meaning in
+    let m = g.W.Weigher.kind.meaning in
     record {
       work = worked_sealed (m c.args.self.now.below) (m c.tend.new.self) c.tend.result c.tend.ensures.work;
       sensor = c.tend.ensures.sensor;
