@@ -89,7 +89,7 @@ fn put_decline(out: &mut Vec<u8>, declined: Declined) -> Result<(), AllocError>
     put_text(out, format_args!("read no {number}\n"))
 }
 
-// The line of a fault by its number and place.
+// The line of a fault by its number and place: a `Fault` in their stead would take fewer of a caller's numbers than before.
 pub fn put_fault(out: &mut Vec<u8>, number: u8, place: usize) -> Result<(), AllocError>
     ensures { OnOk result (out.new.items ≡ out.old.items ++ fault_line number place) }
 {

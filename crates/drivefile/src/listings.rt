@@ -50,7 +50,8 @@ fn lines_of(heap: Global, driven: Drive<'_>) -> Result<Vec<u8>, AllocError>
     Ok(out)
 }
 
-// The one listing of a drive file of any length; want of memory is the one other answer.
+// The one listing of a drive file of any length; want of memory is the one other answer. That an explanation has the same three
+// ways is said there.
 pub fn listing(heap: Global, file: &[u8]) -> Result<Vec<u8>, AllocError>
     ensures listed { IfOk result (λ v. Listed file.now v.items) }
     ensures only { IfOk result (λ v. OnlyListing file.now v.items) }
