@@ -18,18 +18,27 @@ pub enum Declined {
     ReplyMisfit = 16,
 }
 
-impl fmt::Display for Declined {
-    ghost output = { λ declined. Some (decline_words declined) };
-
-    fn fmt<W: fmt::Write>(&self, f: &mut fmt::Formatter<W>) -> fmt::Result {
-        f.write_str(match *self {
+impl Declined {
+    // What it says; unlike `Display` it cannot fail.
+    pub fn words(self) -> &'static str
+        ensures { result.now ≡ decline_words self }
+    {
+        match self {
             Declined::WriteMisfit => "the write strip is not of eight bytes",
             Declined::ReadMisfit => "the read strip is not of eight bytes",
             Declined::NoClass => "no such class",
             Declined::NoInstance => "no such instance",
             Declined::NoAttribute => "no such attribute",
             Declined::ReplyMisfit => "the strip is not of four bytes",
-        })
+        }
+    }
+}
+
+impl fmt::Display for Declined {
+    ghost output = { λ declined. Some (decline_words declined) };
+
+    fn fmt<W: fmt::Write>(&self, f: &mut fmt::Formatter<W>) -> fmt::Result {
+        f.write_str(self.words())
     }
 }
 

@@ -26,6 +26,21 @@ impl Flaw {
     {
         Fault { flaw: self, place }
     }
+
+    // What it says; unlike `Display` it cannot fail.
+    pub fn words(self) -> &'static str
+        ensures { result.now ≡ fault_words (number_of self) }
+    {
+        match self {
+            Flaw::StrangeKind => "no such kind of record",
+            Flaw::CutShort => "a record is missing or cut short",
+            Flaw::OutOfTurn => "a record is out of turn",
+            Flaw::Overlong => "the file is too long",
+            Flaw::BadOrder => "no such order setting",
+            Flaw::BadIncrement => "no such increment",
+            Flaw::BadRamp => "the ramp is out of range",
+        }
+    }
 }
 
 // The number that the listing prints.
@@ -52,15 +67,7 @@ impl fmt::Display for Flaw {
     ghost output = { λ f. Some (fault_words (number_of f)) };
 
     fn fmt<W: fmt::Write>(&self, f: &mut fmt::Formatter<W>) -> fmt::Result {
-        f.write_str(match *self {
-            Flaw::StrangeKind => "no such kind of record",
-            Flaw::CutShort => "a record is missing or cut short",
-            Flaw::OutOfTurn => "a record is out of turn",
-            Flaw::Overlong => "the file is too long",
-            Flaw::BadOrder => "no such order setting",
-            Flaw::BadIncrement => "no such increment",
-            Flaw::BadRamp => "the ramp is out of range",
-        })
+        f.write_str(self.words())
     }
 }
 

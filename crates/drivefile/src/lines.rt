@@ -47,22 +47,22 @@ fn put_hex<const N: usize>(out: &mut Vec<u8>, bytes: &[u8; N]) -> Result<(), All
 }
 
 // A blank, and a word of four digits, or four dashes for none.
-fn put_word(out: &mut Vec<u8>, word: Option<u16>) -> Result<(), AllocError>
-    ensures { OnOk result (out.new.items ≡ out.old.items ++ 32 ∷ word_field word) }
+fn word_field(word: Option<u16>) -> [u8; 5]
+    ensures { result ≡ 32 ∷ word_field word }
 {
     let Some(word) = word else {
-        return put(out, b" ----");
+        return *b" ----";
     };
-    put(out, b" ")?;
-    put_hex(out, &word.to_be_bytes())
+    let [[a, b], [c, d]] = word.to_be_bytes().map(hex_byte);
+    [b' ', a, b, c, d]
 }
 
+// The three words at once: one by one, a scan took 100 instructions more.
 fn put_note(out: &mut Vec<u8>, note: Note) -> Result<(), AllocError>
     ensures { OnOk result (out.new.items ≡ out.old.items ++ note_fields note) }
 {
-    put_word(out, note.taken)?;
-    put_word(out, note.posted)?;
-    put_word(out, note.closed)
+    let words = [note.taken, note.posted, note.closed];
+    put(out, words.map(word_field).as_flattened())
 }
 
 fn put_scan(out: &mut Vec<u8>, read: [u8; 8], note: Note) -> Result<(), AllocError>

@@ -15,7 +15,7 @@ fn put_ending(text: &mut Vec<u8>, tail: Result<(), Fault>) -> Result<(), AllocEr
     put_tail(text, tail)?;
     match tail {
         Ok(()) => put_indented(text, "the file ends here"),
-        Err(fault) => put_indented(text, fault.flaw),
+        Err(fault) => put_indented(text, fault.flaw.words()),
     }
 }
 

@@ -72,7 +72,8 @@ impl Explainer {
             }
             Answer::Looked(_) => put_indented(&mut self.text, ""),
             Answer::Declined(declined) => {
-                put_indented(&mut self.text, format_args!("declined: {declined}"))
+                let words = declined.words();
+                put_indented(&mut self.text, format_args!("declined: {words}"))
             }
         }
     }

@@ -1,4 +1,4 @@
--- One tend more of a run, and one line more of a listing.
+-- One tend more of a run.
 use Rattle.std.proofs.Common.{Option, unsigned_abs, ◌≡◌, ℕ, suc, ◌+◌, ◌-◌, ◌<◌, ◌≤◌, true, false, List, [], ◌∷◌, ◌++◌, length, ℤ, pos, ap, ◌∙◌, arith}
 use Rattle.std.proofs.lemmas.Bool.Decides.{nat_tests}
 use Rattle.weigher.specs.declared.answers.Told.{Told}

@@ -45,7 +45,8 @@ impl fmt::Display for Flaw {
             Flaw::NoNumber => f.write_str("no number"),
             Flaw::Declined(declined) => {
                 let number = u8::from(declined);
-                write!(f, "declined with {number}, {declined}")
+                let reason = declined.reason();
+                write!(f, "declined with {number}, {reason}")
             }
         }
     }

@@ -34,6 +34,8 @@ impl fmt::Display for Entry {
             sensed,
             told,
         } = *self;
+        let sensed = sensed.word();
+        let told = told.word();
         write!(f, "{number} {load} {sensed} {told}")
     }
 }

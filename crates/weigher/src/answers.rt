@@ -73,6 +73,17 @@ impl Sensed {
             Sensed::Moving
         }
     }
+
+    // The word that names it in a listing; unlike `Display` it cannot fail.
+    pub fn word(self) -> &'static str
+        ensures { result.now ≡ sensed_word self }
+    {
+        match self {
+            Sensed::Still => "still",
+            Sensed::Moving => "moving",
+            Sensed::Fault => "fault",
+        }
+    }
 }
 
 impl From<View> for Sensed {
@@ -87,11 +98,7 @@ impl fmt::Display for Sensed {
     ghost output = { λ sensed. Some (sensed_word sensed) };
 
     fn fmt<W: fmt::Write>(&self, f: &mut fmt::Formatter<W>) -> fmt::Result {
-        f.write_str(match *self {
-            Sensed::Still => "still",
-            Sensed::Moving => "moving",
-            Sensed::Fault => "fault",
-        })
+        f.write_str(Sensed::word(*self))
     }
 }
 
@@ -107,11 +114,12 @@ pub enum Declined {
     BadTolerance = 46,
 }
 
-impl fmt::Display for Declined {
-    ghost output = { λ declined. Some (reason_of declined) };
-
-    fn fmt<W: fmt::Write>(&self, f: &mut fmt::Formatter<W>) -> fmt::Result {
-        f.write_str(match *self {
+impl Declined {
+    // What it says; unlike `Display` it cannot fail.
+    pub fn reason(self) -> &'static str
+        ensures { result.now ≡ reason_of self }
+    {
+        match self {
             Declined::OrderStands => "an order stands",
             Declined::OrderNotKnown => "the order is not known",
             Declined::PresetOutside => "the preset is not 0 to the capacity",
@@ -119,7 +127,15 @@ impl fmt::Display for Declined {
             Declined::BadRamp => "the ramp is out of range",
             Declined::BadCapacity => "the capacity is not 1 to 4000000",
             Declined::BadTolerance => "the tolerance is not 0 to 1000",
-        })
+        }
+    }
+}
+
+impl fmt::Display for Declined {
+    ghost output = { λ declined. Some (reason_of declined) };
+
+    fn fmt<W: fmt::Write>(&self, f: &mut fmt::Formatter<W>) -> fmt::Result {
+        f.write_str(self.reason())
     }
 }
 

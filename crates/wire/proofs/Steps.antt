@@ -14,7 +14,7 @@ unfolding listed
 listed_range d h = grind (arith, nat_tests)
 
 -- twice the steps and a rest below two steps make up twice the size and half a step
-left_over : (d a : ℕ) → 0 < d → (m : ℕ) × (m < 2 * d) × (2 * (d * steps d a) + m ≡ 2 * a + d)
+pub left_over : (d a : ℕ) → 0 < d → (m : ℕ) × (m < 2 * d) × (2 * (d * steps d a) + m ≡ 2 * a + d)
 left_over d a h = (
   (2 * a + d) % (2 * d),
   mod_below (2 * a + d) (2 * d) (omega arith),
@@ -47,7 +47,7 @@ module _ (d : ℕ) (h : 0 < d) (a : ℕ) where
 none : (d : ℕ) → 0 < d → d * steps d 0 ≡ 0
 none d h = multiple_stays d h 0 (zero-mod d)
 
-mirror : (d : ℕ) → 0 < d → (n : ℤ) → rounded d (neg_ℤ n) ≡ neg_ℤ (rounded d n)
+pub mirror : (d : ℕ) → 0 < d → (n : ℤ) → rounded d (neg_ℤ n) ≡ neg_ℤ (rounded d n)
 unfolding rounded
 mirror d h (pos zero) = grind (arith, ints, none d h)
 mirror d h (pos (suc a)) = refl

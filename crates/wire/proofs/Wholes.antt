@@ -12,17 +12,17 @@ use Rattle.std.proofs.lemmas.Int.{ints}
 use Rattle.std.proofs.lemmas.Bool.Decides.{nat_tests}
 use Rattle.wire.specs.Floats.{largest, signed, whole_float, whole_of, bits_of, Whole}
 
-abbrev negative : ℤ → Bool
+abbrev pub negative : ℤ → Bool
 negative (pos n) = false
 negative (negsuc n) = true
 
 -- a whole number is its sign and its size
-signed_is : (z : ℤ) → signed (negative z) (nat_abs z) ≡ z
+pub signed_is : (z : ℤ) → signed (negative z) (nat_abs z) ≡ z
 signed_is (pos n) = refl
 signed_is (negsuc n) = refl
 
 -- up to 2 ^ 24 the float is exact
-of_value : (z : ℤ) → nat_abs z ≤ 2 ^ 24 → HasValue (of_int binary32 z) (negative z) (nat_abs z) 1
+pub of_value : (z : ℤ) → nat_abs z ≤ 2 ^ 24 → HasValue (of_int binary32 z) (negative z) (nat_abs z) 1
 unfolding of_int
 of_value (pos n) h = round_whole binary32 false n h
 of_value (negsuc n) h = round_whole binary32 true (suc n) h
@@ -103,7 +103,7 @@ says (fin t m e) z h =
     )
 
 -- and it is the float cut to a whole number
-cut : (x : Float) (z : ℤ) → whole_float x ≡ Some z → to_signed 31 x ≡ z
+pub cut : (x : Float) (z : ℤ) → whole_float x ≡ Some z → to_signed 31 x ≡ z
 unfolding to_signed
 cut nan z h = cc
 cut (inf t) z h = cc

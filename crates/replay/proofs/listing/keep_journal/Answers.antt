@@ -8,6 +8,7 @@ use Rattle.weigher.specs.Bases.{scale_of}
 use Rattle.weigher.specs.Cell.{cell_refusal}
 use Rattle.replay.specs.declared.failure.Failure.TheVariants.{Input}
 use Rattle.replay.specs.declared.failure.Flaw.TheVariants.{Declined}
+use Rattle.replay.specs.Listing.{Account}
 use Rattle.replay.specs.Runs.{begun_on, declined_at}
 use Rattle.replay.proofs.Mapped.{mapped_ok, mapped_err}
 use Rattle.replay.proofs.Steps.{begun_so, replayed_so}
@@ -48,4 +49,5 @@ returns-clause-made c =
     let told = replayed_so r _ _ _ _ _ c.in_ok-entries.ensures.made (ap (λ (z : CellSensor). z.tolerance) c.begin.ensures.sensor ∙ new.2) samples count (ap (λ z. z.1) work) in
     let zero : to_z w32 (of_z w32 c.look-view.result.zero) ≡ c.tend_all.new.cell.base.zero = grind (arith, common_steps, to_z-of_z) in
     let tare : to_z w32 (of_z w32 c.look-view.result.tare) ≡ c.tend_all.new.cell.base.tare = grind (arith, common_steps, to_z-of_z) in
-    (at, rw (zero, tare) (ap (λ z. record { entries = z.0; zero = z.1.zero; tare = z.1.tare }) told))
+    let account = ap {B = Account} (λ z. record { entries = z.0; zero = z.1.zero; tare = z.1.tare }) told in
+    (at, rw (← zero, ← tare) at account)
